@@ -1,0 +1,5 @@
+pub mod Appends
+pub mod Places
+pub mod Spells
+pub mod Streams
+pub mod Yields

@@ -1,0 +1,4 @@
+pub mod Faults
+pub mod Parse
+pub mod Readers
+pub mod Streams

@@ -1,0 +1,3 @@
+pub mod Once
+mod Order
+pub mod Sets

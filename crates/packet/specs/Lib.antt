@@ -1,0 +1,3 @@
+pub mod Packet
+pub mod Policy
+pub mod Table
