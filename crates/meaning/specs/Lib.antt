@@ -1,0 +1,4 @@
+pub mod Answers
+pub mod Evaluators
+pub mod Kept
+pub mod Listed

@@ -1,0 +1,14 @@
+use Rattle.std.specs.shelf.Text.{sameBytes}
+use Rattle.std.proofs.shelf.Equals.{matches-decides, sameBytes-decides}
+use Rattle.std.proofs.shelf.Ways.{same-from-decides}
+use Rattle.notation.specs.Kinds.{sameWord}
+use Rattle.notation.proofs.kind.same.Needs as need
+
+pub returns : need.returns
+unfolding sameWord
+returns c =
+    let word = c .args .word .now in
+    let name = c .args .name .now in
+    record {
+      value = same-from-decides (c .eq .result) (sameBytes word name) (matches-decides word name (c .eq .result) (c .eq .ensures)) (sameBytes-decides word name);
+    }

@@ -1,0 +1,9 @@
+pub mod Kinds
+pub mod Marks
+pub mod Numbers
+pub mod Words
+pub mod Reading
+pub mod Operands
+pub mod Notation
+pub mod Readers
+pub mod Writing

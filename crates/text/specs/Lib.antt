@@ -1,0 +1,5 @@
+pub mod Nodes
+pub mod Texts
+pub mod Trees
+pub mod Format
+pub mod Laws
