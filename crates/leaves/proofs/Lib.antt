@@ -1,0 +1,10 @@
+pub mod Fronts
+pub mod Placed
+pub mod Changing
+pub mod Outcome
+pub mod Counting
+pub mod Marking
+pub mod Freed
+pub mod Parts
+pub mod Reached
+pub mod Gathered

@@ -1,0 +1,4 @@
+pub mod Place
+pub mod Pairs
+pub mod Outs
+pub mod Under

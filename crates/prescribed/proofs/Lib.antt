@@ -1,0 +1,13 @@
+pub mod Alike
+pub mod Members
+pub mod Rising
+pub mod Orders
+pub mod Free
+pub mod Changes
+pub mod Sample
+pub mod Leaf
+pub mod Same
+pub mod Asks
+pub mod Right
+pub mod Differ
+pub mod Sizes

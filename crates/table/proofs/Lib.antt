@@ -1,0 +1,5 @@
+mod Decides
+mod Gathering
+pub mod Encoding
+pub mod Steps
+pub mod Telling

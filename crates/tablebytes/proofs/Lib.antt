@@ -1,0 +1,4 @@
+mod Filling
+mod Sizes
+mod Storing
+mod Trips
