@@ -1,0 +1,10 @@
+pub mod At
+pub mod Net
+pub mod Order
+pub mod Switch
+pub mod Desk
+pub mod Run
+pub mod Promise
+pub mod OnTheWay
+pub mod Live
+pub mod Cases
