@@ -1,0 +1,11 @@
+mod Ends
+mod Handing
+mod Joining
+mod Knowns
+mod LeafRule
+mod Recursing
+mod Rows
+mod Steps
+mod Turns
+mod Wholes
+mod SameWords

@@ -1,0 +1,13 @@
+use Prim.Native.Nat.{_+_, _*_, _≤_}
+use mathlib.Core.Path.{_≡_}
+use mathlib.Core.List.{_∷_, _++_}
+use lib.ListN.{length, take}
+use Rattle.std.specs.Joined.{joined}
+use Rattle.table.specs.Words.{settingWords}
+use Rattle.leaves.specs.Outs.{settingsOf}
+use Rattle.maker.proofs.leaf.one_out.Given as given
+
+abbrev pub Inv-loop-j : given.InvT-loop-j
+Inv-loop-j l =
+    (l .at ≤ l .entry .at + 2 * l .j)
+    × (take (l .at) (l .out) ≡ take (l .entry .at) (l .entry .out) ++ joined settingWords (take (l .j) (settingsOf (l .o))))
