@@ -1,0 +1,6 @@
+mod Boards
+mod Fields
+mod Formats
+pub mod Linked
+pub mod Listed
+pub mod Trips

@@ -1,0 +1,9 @@
+pub mod Numbers
+pub mod Orders
+pub mod Marks
+pub mod Frames
+pub mod Wires
+pub mod Layouts
+pub mod Cables
+pub mod Lists
+pub mod Laws
