@@ -31,7 +31,7 @@ fn place(heap: Global, line: Option<usize>) -> Result<String, AllocError>
     ensures made { IfOk result (λ s. string_bytes s ≡ place_of line) }
 {
     match line {
-        Some(n) => format!(heap, "line {n}: "),
+        Some(n) => format!(in heap; "line {n}: "),
         None => String::from_str(heap, ""),
     }
 }
@@ -49,19 +49,19 @@ pub fn refused(
     let number = fault.number();
     let why = cause(fault);
     if number == 0 {
-        return format!(heap, "{program}: {place}{why}");
+        return format!(in heap; "{program}: {place}{why}");
     }
-    format!(heap, "{program}: {place}refused {number}: {why}")
+    format!(in heap; "{program}: {place}refused {number}: {why}")
 }
 
 pub fn unreadable(heap: Global, program: &str, file: &str) -> Result<String, AllocError>
     ensures made { IfOk result (λ s. string_bytes s ≡ unreadable_line program.now file.now) }
 {
-    format!(heap, "{program}: {file}: can't be read")
+    format!(in heap; "{program}: {file}: can't be read")
 }
 
 pub fn misused(heap: Global, program: &str, usage: &str) -> Result<String, AllocError>
     ensures made { IfOk result (λ s. string_bytes s ≡ misused_line program.now usage.now) }
 {
-    format!(heap, "{program}: bad arguments; usage: {usage}")
+    format!(in heap; "{program}: bad arguments; usage: {usage}")
 }

@@ -9,4 +9,3 @@ mod Steps
 mod Turns
 mod Wholes
 mod SameWords
-mod Cuts

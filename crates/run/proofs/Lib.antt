@@ -1,7 +1,6 @@
 pub mod Lists
 pub mod Packets
 mod Inv
-mod Asked
 pub mod Held
 pub mod Switches
 mod Cables
@@ -22,10 +21,3 @@ pub mod Can
 pub mod Leave
 mod NoHops
 pub mod Cases
-mod Answered
-mod Room
-pub mod Past
-mod Told
-pub mod Rehearsal
-pub mod View
-pub mod Late

@@ -1,4 +1,4 @@
-pub mod Decides
+mod Decides
 mod Gathering
 pub mod Encoding
 pub mod Steps

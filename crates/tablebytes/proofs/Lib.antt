@@ -1,4 +1,4 @@
 mod Filling
 mod Sizes
 mod Storing
-pub mod Trips
+mod Trips

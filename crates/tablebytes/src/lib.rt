@@ -1,6 +1,4 @@
-// Tables as bytes: how they are read, and the places that they are put into.
-pub mod place;
+// Tables as bytes: how they are read into lent words.
 mod reads;
 
-pub use place::Place;
-pub use reads::{MOST_WORDS, format_stands, measure};
+pub use reads::{MOST_WORDS, format_stands, measure, read};

@@ -1,4 +1,4 @@
 pub mod Sound
 pub mod Reading
 pub mod Standing
-pub mod Trips
+mod Trips

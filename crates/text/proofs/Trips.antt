@@ -13,7 +13,7 @@ use Rattle.text.specs.declared.node.Node.TheVariants.{Always, Is, Both, Either, 
 use Rattle.text.specs.declared.node.Sort.{Sort}
 use Rattle.text.specs.declared.node.Sort.TheVariants.{Test, Policy}
 use Rattle.text.specs.Nodes.{fitting, fits, sound}
-use Rattle.text.specs.Format.{field, operand, valued, unary, binary, of_kind, node, nodes, listed, Assignment, text, alone, node_bytes, listed_bytes, text_bytes, valued_bytes, unary_bytes, binary_bytes}
+use Rattle.text.specs.Format.{field, operand, valued, unary, binary, of_kind, node, nodes, Assignment, text, alone, node_bytes, text_bytes, valued_bytes, unary_bytes, binary_bytes}
 use Rattle.text.specs.Laws.{Good, ReadsBack, WritesBack, NoFront}
 use Rattle.text.proofs.Reading.{nodes_grow}
 
@@ -53,32 +53,25 @@ nodes_back ns (m ∷ ms) rest h =
     ∙ ap (λ g. and_then g (λ n r. nodes (length ms) (ns ++ n ∷ []) r)) (node_back ns m (flat_map node_bytes ms ++ rest) p.0)
     ∙ nodes_back (ns ++ m ∷ []) ms rest p.1 ∙ ap (λ l. Read l rest) (append_assoc ns (m ∷ []) ms)
 
-pub listed_back : (ns : List Node) (rest : List ℕ) → 1 ≤ length ns → length ns ≤ 512 → sound [] ns ≡ true → listed (listed_bytes ns ++ rest) ≡ Read ns rest
-listed_back ns rest some few so = rw (word_joined (length ns), le-leb 1 (length ns) some, le-leb (length ns) 512 few) (nodes_back [] ns rest so)
-
 pub reads_back : ReadsBack
 reads_back n a rest g =
-    rw (lt-ltb a.switch n g.there)
-    (ap (λ o. and_then o (λ ns t. Read (record { switch = a.switch; nodes = ns }) t)) (listed_back a.nodes rest g.some g.few g.sound))
+    rw (lt-ltb a.switch n g.there, word_joined (length a.nodes), le-leb 1 (length a.nodes) g.some, le-leb (length a.nodes) 512 g.few)
+    (ap (λ o. and_then o (λ ns t. Read (record { switch = a.switch; nodes = ns }) t)) (nodes_back [] a.nodes rest g.sound))
 
 -- What reads as a text is good.
 in_range_lem : (k : ℕ) → (leb 1 k && leb k 512) ≡ true → (1 ≤ k) × (k ≤ 512)
 in_range_lem k h = let p = and_parts (leb 1 k) (leb k 512) h in (leb-true 1 k p.0, leb-true k 512 p.1)
 
-listed_good : Yields listed (λ ns. (1 ≤ length ns) × (length ns ≤ 512) × (sound [] ns ≡ true))
-unfolding sound
-listed_good =
-    yields_then (λ k. Unit {0}) _ word _ (yields_any word) (λ k _.
-    yields_then (λ m. (1 ≤ m) × (m ≤ 512)) _ (λ p. check (leb 1 k && leb k 512) 2 k p) _ (yields_check _ _ 2 k (in_range_lem k)) (λ m range bs ns rest e.
-    let grown = nodes_grow m [] bs ns rest e in
-    (omega (arith, grown.0, range.0), omega (arith, grown.0, range.1), grown.1 refl)))
-
 text_good : (n : ℕ) → Yields (text n) (Good n)
+unfolding sound
 text_good n =
     yields_then (λ i. Unit {0}) _ byte _ (yields_any byte) (λ i _.
     yields_then (λ j. j < n) _ (λ r. check (ltb i n) 2 i r) _ (yields_check _ (ltb i n) 2 i (ltb-true i n)) (λ j lt.
-    yields_then _ _ listed _ listed_good (λ ns good.
-    yields_read (Good n) (record { switch = j; nodes = ns }) (record { there = lt; some = good.0; few = good.1; sound = good.2 }))))
+    yields_then (λ k. Unit {0}) _ word _ (yields_any word) (λ k _.
+    yields_then (λ m. (1 ≤ m) × (m ≤ 512)) _ (λ p. check (leb 1 k && leb k 512) 2 k p) _ (yields_check _ _ 2 k (in_range_lem k)) (λ m range.
+    yields_then _ _ (nodes m []) _ (nodes_grow m []) (λ ns grown.
+    yields_read (Good n) (record { switch = j; nodes = ns })
+    (record { there = lt; some = omega (arith, grown.0, range.0); few = omega (arith, grown.0, range.1); sound = grown.1 refl }))))))
 
 -- What was read is spelt as it is written.
 then_nothing : (u w : List ℕ) → w ≡ [] → u ++ w ≡ u
@@ -157,43 +150,40 @@ spells_nodes (suc k) ns =
     (λ n all u w p q. (n ∷ q.0, q.1 ∙ append_assoc ns (n ∷ []) q.0, λ i. p i ++ q.2 i, ap suc q.3)) (spells_node ns)
     (λ n. spells_nodes k (ns ++ n ∷ []))
 
--- m nodes
-Counted : ℕ → List Node → List ℕ → Type 0
-Counted m ns used = (used ≡ flat_map node_bytes ns) × (length ns ≡ m)
+-- m nodes for the switch j
+Listed : ℕ → ℕ → Assignment → List ℕ → Type 0
+Listed j m a used = (a.switch ≡ j) × (used ≡ flat_map node_bytes a.nodes) × (length a.nodes ≡ m)
 
-spells_counted : (m : ℕ) → Spells (nodes m []) (Counted m)
-unfolding Counted
-spells_counted m bs ns rest clean e =
-    let s = spells_nodes m [] bs ns rest clean e in
-    record { used = s.used; whole = s.whole; is = (s.is.2 ∙ ap (flat_map node_bytes) (sym s.is.1), ap length s.is.1 ∙ s.is.3); clean = s.clean }
+-- nodes for the switch j, with their number
+Counted : ℕ → Assignment → List ℕ → Type 0
+Counted j a used = (a.switch ≡ j) × (used ≡ word_bytes (length a.nodes) ++ flat_map node_bytes a.nodes)
 
-spells_listed : Spells listed (λ ns used. used ≡ listed_bytes ns)
-unfolding Same Counted
-spells_listed =
-    spells_then (λ k u. u ≡ word_bytes k) Counted _ word _ (λ k ns u w p q. λ i. (p ∙ ap word_bytes (sym q.1)) i ++ q.0 i) spells_word
-    (λ k. spells_then (Same k) Counted (Counted k) (λ p. check (leb 1 k && leb k 512) 2 k p) _
-    (λ m ns u w p q. (ap (λ l. l ++ w) p.1 ∙ q.0, q.1 ∙ sym p.0))
-    (spells_check (Same k) _ 2 k (refl, refl)) spells_counted)
+spells_listed : (j m : ℕ) → Spells (λ o. and_then (nodes m [] o) (λ ns t. Read (record { switch = j; nodes = ns }) t)) (Listed j m)
+unfolding Listed
+spells_listed j m =
+    spells_then (Further m []) (λ ns a w. (record { switch = j; nodes = ns } ≡ a) × (w ≡ [])) _ (nodes m []) _
+    (λ ns a u w p q.
+    let got = ap (λ z. z.nodes) (sym q.0) ∙ p.1 in
+    (ap (λ z. z.switch) (sym q.0), then_nothing u w q.1 ∙ p.2 ∙ ap (flat_map node_bytes) (sym got), ap length got ∙ p.3))
+    (spells_nodes m []) (λ ns. spells_read (λ a w. (record { switch = j; nodes = ns } ≡ a) × (w ≡ [])) _ (refl, refl))
 
--- nodes for the switch j
-Assigned : ℕ → Assignment → List ℕ → Type 0
-Assigned j a used = (a.switch ≡ j) × (used ≡ listed_bytes a.nodes)
-
-spells_assigned : (j : ℕ) → Spells (λ q. and_then (listed q) (λ ns t. Read (record { switch = j; nodes = ns }) t)) (Assigned j)
-unfolding Assigned
-spells_assigned j =
-    spells_then (λ ns u. u ≡ listed_bytes ns) (λ ns a w. (record { switch = j; nodes = ns } ≡ a) × (w ≡ [])) _ listed _
-    (λ ns a u w p q. (ap (λ z. z.switch) (sym q.0), then_nothing u w q.1 ∙ p ∙ ap (λ z. listed_bytes z.nodes) q.0))
-    spells_listed (λ ns. spells_read (λ a w. (record { switch = j; nodes = ns } ≡ a) × (w ≡ [])) _ (refl, refl))
+spells_counted : (j : ℕ) → Spells (λ q. and_then (word q) (λ k p. and_then (check (leb 1 k && leb k 512) 2 k p) (λ m o. and_then (nodes m [] o) (λ ns t. Read (record { switch = j; nodes = ns }) t)))) (Counted j)
+unfolding Same Listed Counted
+spells_counted j =
+    spells_then (λ k u. u ≡ word_bytes k) (λ k. Listed j k) _ word _
+    (λ k a u w p q. (q.0, λ i. (p ∙ ap word_bytes (sym q.2)) i ++ q.1 i)) spells_word
+    (λ k. spells_then (Same k) (λ m. Listed j m) (Listed j k) (λ p. check (leb 1 k && leb k 512) 2 k p) _
+    (λ m a u w p q. (q.0, ap (λ l. l ++ w) p.1 ∙ q.1, q.2 ∙ sym p.0))
+    (spells_check (Same k) _ 2 k (refl, refl)) (spells_listed j))
 
 spells_text : (n : ℕ) → Spells (text n) (λ a used. used ≡ text_bytes a.switch a.nodes)
-unfolding Same Assigned
+unfolding Same Counted
 spells_text n =
-    spells_then (λ i u. u ≡ i ∷ []) (λ i. Assigned i) _ byte _
-    (λ i a u w p q. (λ z. p z ++ q.1 z) ∙ ap (λ j. j ∷ listed_bytes a.nodes) (sym q.0)) spells_byte
-    (λ i. spells_then (Same i) (λ j. Assigned j) (Assigned i) (λ r. check (ltb i n) 2 i r) _
+    spells_then (λ i u. u ≡ i ∷ []) (λ i. Counted i) _ byte _
+    (λ i a u w p q. (λ z. p z ++ q.1 z) ∙ ap (λ j. j ∷ (word_bytes (length a.nodes) ++ flat_map node_bytes a.nodes)) (sym q.0)) spells_byte
+    (λ i. spells_then (Same i) (λ j. Counted j) (Counted i) (λ r. check (ltb i n) 2 i r) _
     (λ j a u w p q. (q.0 ∙ sym p.0, ap (λ l. l ++ w) p.1 ∙ q.1))
-    (spells_check (Same i) _ 2 i (refl, refl)) spells_assigned)
+    (spells_check (Same i) _ 2 i (refl, refl)) spells_counted)
 
 pub writes_back : WritesBack
 writes_back n bs rest a clean e =
@@ -233,16 +223,13 @@ streams_nodes : (k : ℕ) (ns : List Node) → Streams (nodes k ns)
 streams_nodes zero ns = streams_read ns
 streams_nodes (suc k) ns = streams_then (node ns) _ (streams_then byte (of_kind ns) streams_byte (streams_kind ns)) (λ n. streams_nodes k (ns ++ n ∷ []))
 
-streams_listed : Streams listed
-streams_listed =
-    streams_then word _ streams_word (λ k.
-    streams_then (λ p. check (leb 1 k && leb k 512) 2 k p) _ (streams_check _ 2 k) (λ m. streams_nodes m []))
-
 pub streams_text : (n : ℕ) → Streams (text n)
 streams_text n =
     streams_then byte _ streams_byte (λ i.
     streams_then (λ r. check (ltb i n) 2 i r) _ (streams_check _ 2 i) (λ j.
-    streams_then listed _ streams_listed (λ ns. streams_read (record { switch = j; nodes = ns }))))
+    streams_then word _ streams_word (λ k.
+    streams_then (λ p. check (leb 1 k && leb k 512) 2 k p) _ (streams_check _ 2 k) (λ m.
+    streams_then (nodes m []) _ (streams_nodes m []) (λ ns. streams_read (record { switch = j; nodes = ns }))))))
 
 pub no_front : NoFront
 no_front n bs a k e lt = go (text n bs) refl e

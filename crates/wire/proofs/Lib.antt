@@ -1,5 +1,5 @@
-pub mod Boards
-pub mod Fields
+mod Boards
+mod Fields
 mod Formats
 pub mod Linked
 pub mod Listed

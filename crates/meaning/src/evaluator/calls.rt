@@ -1,46 +1,42 @@
 // How an evaluator is made and asked.
-ghost use Rattle.std.specs.Prelude.{◌≡◌, ◌<◌, length, IfOk};
+ghost use Rattle.std.specs.Prelude.{◌≡◌, IfOk};
 ghost use Rattle.text.specs.declared.node.Sort.TheVariants.{Test};
 ghost use Rattle.text.specs.Nodes.{fitting};
 ghost use Rattle.text.specs.Texts.{nodes_of};
-ghost use Rattle.text.specs.Trees.{trees, policy_at, meaning};
 ghost use Rattle.meaning.specs.Answers.{HoldsAt, CopiesAt};
 ghost use Rattle.meaning.specs.Evaluators.{text_of};
 ghost use Rattle.meaning.specs.Kept.{Right};
-ghost use Rattle.meaning.specs.Resting.{asked, Gave};
 
 use super::Evaluator;
 use crate::copies::Copies;
-use crate::given::{Flight, Given};
 use crate::gives::give;
-use crate::memo::{MOST, Memo, NONE, ROWS};
-use crate::raising::raising;
-use crate::rows::{row_of, told};
-use crate::tests::says_yes;
+use crate::memo::{Entry, Memo, PLACES, ROWS};
+use crate::tests::{passes, row_of};
 use octets::Fault;
 use packet::Packet;
 use std::alloc::{AllocError, Global};
 use text::{Sort, Text};
 
-// A memo that knows nothing yet: its rows are those of a packet of zeros.
+// A memo that knows nothing yet: its row is that of a packet of zeros, and its entries are of a node that isn't
+// there, which has no copies of any packet.
 fn blank(heap: Global, text: &Text) -> Result<Memo, AllocError>
     ensures made { IfOk result (λ m. Right (nodes_of text.now) m) }
 {
     let packet = Packet { fields: [0; 8] };
-    let flight = Flight {
-        first: packet,
-        packet,
-    };
-    let row = row_of(text, flight);
+    let row = row_of(text, packet);
     let rows = vec![in heap; row; ROWS]?;
-    let entries = Vec::with_capacity(heap, MOST)?;
+    let nobody = Entry {
+        node: u16::MAX,
+        packet,
+        copies: Copies::none(),
+    };
+    let entries = vec![in heap; nobody; PLACES * text.nodes().len()]?;
+    let used = [0; 512];
     Ok(Memo {
         rows,
         filled: 0,
         entries,
-        kept: 0,
-        latest: [NONE; 512],
-        raising: raising(text),
+        used,
     })
 }
 
@@ -77,11 +73,7 @@ impl Evaluator {
         if !is_test(&self.text, k) {
             return Err(Fault::Operand);
         }
-        let q = Flight {
-            first: p,
-            packet: p,
-        };
-        Ok(says_yes(told(&self.text, k as usize, q, &mut self.memo)))
+        Ok(passes(&self.text, k as usize, p, &mut self.memo))
     }
 
     // The copies that node k gives of the packet.
@@ -92,34 +84,9 @@ impl Evaluator {
         if k as usize >= self.text.nodes().len() {
             return Err(Fault::Operand);
         }
-        match self.fresh(k, p) {
-            Ok(given) => Ok(given.copies),
-            Err(fault) => Err(fault),
-        }
-    }
-
-    // The copies that the text gives of the packet, and on how many of its fields that rests.
-    pub fn given(&mut self, p: Packet) -> Result<Given, Fault>
-        ensures text { text_of self.new ≡ text_of self.old }
-        ensures gave { Gave (asked (nodes_of (text_of self.old))) (meaning (nodes_of (text_of self.old))) p.fields p.fields result }
-    {
-        let last = self.text.nodes().len() - 1;
-        self.fresh(last as u16, p)
-    }
-
-    // What came up for one packet doesn't come up for the next, and a search is shorter in an empty memo.
-    fn fresh(&mut self, k: u16, p: Packet) -> Result<Given, Fault>
-        requires within { k < length (nodes_of (text_of self.old)) }
-        ensures text { text_of self.new ≡ text_of self.old }
-        ensures gave { Gave (asked (nodes_of (text_of self.old))) (policy_at (trees (nodes_of (text_of self.old))) k) p.fields p.fields result }
-    {
+        // What came up for one packet seldom comes up for the next, and a search is shorter in an empty memo.
         self.memo.filled = 0;
-        self.memo.kept = 0;
-        self.memo.latest = [NONE; 512];
-        let q = Flight {
-            first: p,
-            packet: p,
-        };
-        give(&self.text, k, q, &mut self.memo)
+        self.memo.used = [0; 512];
+        give(&self.text, k, p, &mut self.memo)
     }
 }

@@ -2,10 +2,10 @@
 ghost use Rattle.std.specs.Prelude.{◌≡◌, ◌≤◌, []};
 ghost use Rattle.octets.specs.Readers.{told, told_as, rest};
 ghost use Rattle.text.specs.Format as spec;
-ghost use Rattle.text.specs.Texts.{drafted, nodes_of, assignment_of};
+ghost use Rattle.text.specs.Texts.{drafted, assignment_of};
 
 use crate::node::{Node, Sort};
-use crate::texts::{Assigned, Draft, Text};
+use crate::texts::{Assigned, Draft};
 use octets::{Cursor, Fault};
 
 fn field(c: &mut Cursor) -> Result<u8, Fault>
@@ -81,23 +81,6 @@ fn nodes(c: &mut Cursor, draft: Draft, count: u16) -> Result<Draft, Fault>
     Ok(draft)
 }
 
-// The nodes of a text, with their number in front. They are written over what the draft holds.
-pub fn read_nodes(c: &mut Cursor, draft: Draft) -> Result<Text, Fault>
-    ensures value { told_as nodes_of result (rest c.new) ≡ spec.listed (rest c.old) }
-{
-    let Ok(count) = c.word() else {
-        return Err(Fault::Form);
-    };
-    if count < 1 || count > 512 {
-        return Err(Fault::Range);
-    }
-    let draft = nodes(c, draft, count)?;
-    let Some(text) = draft.finish() else {
-        return Err(Fault::Range);
-    };
-    Ok(text)
-}
-
 // A text for one of so many switches. It is written over what the draft holds.
 pub fn read(c: &mut Cursor, draft: Draft, switches: u8) -> Result<Assigned, Fault>
     ensures value { told_as assignment_of result (rest c.new) ≡ spec.text switches (rest c.old) }
@@ -108,7 +91,16 @@ pub fn read(c: &mut Cursor, draft: Draft, switches: u8) -> Result<Assigned, Faul
     if switch >= switches {
         return Err(Fault::Range);
     }
-    let text = read_nodes(c, draft)?;
+    let Ok(count) = c.word() else {
+        return Err(Fault::Form);
+    };
+    if count < 1 || count > 512 {
+        return Err(Fault::Range);
+    }
+    let draft = nodes(c, draft, count)?;
+    let Some(text) = draft.finish() else {
+        return Err(Fault::Range);
+    };
     Ok(Assigned { switch, text })
 }
 

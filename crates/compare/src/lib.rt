@@ -1,8 +1,0 @@
-// Two texts compared.
-pub mod answer;
-mod sets;
-mod tables;
-mod texts;
-
-pub use answer::{Compared, Difference};
-pub use texts::compare;

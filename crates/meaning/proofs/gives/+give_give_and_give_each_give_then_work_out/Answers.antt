@@ -1,0 +1,123 @@
+use Rattle.std.proofs.Common.{◌≡◌, ◌+◌, ◌-◌, ◌*◌, ◌<◌, length, get_or, Ok, vec_items, refl, ap, ⊎_elim, arith, rules}
+use Rattle.std.proofs.lemmas.List.Elements.{AllWithin-set}
+use Rattle.packet.specs.Packet.{once}
+use Rattle.packet.specs.Policy.{each, some}
+use Rattle.text.specs.Texts.{nodes_of}
+use Rattle.text.specs.Trees.{as_policy, tree_of}
+use Rattle.meaning.specs.Kept.{EntryRight}
+use Rattle.meaning.proofs.Answering.{answer_of_lem, put_gives, and_first, and_second, and_joined, and_full, then_first, then_each, each_few, each_fault, each_more, each_full, each_all}
+use Rattle.meaning.proofs.Remembering.{entry_recalled}
+use Rattle.meaning.proofs.Telling.{a_test, test_keeps}
+use Rattle.meaning.proofs.gives.+give_give_and_give_each_give_then_work_out.Goals as goal
+
+pub give-returns-in-Some : goal.give-returns-in-Some
+give-returns-in-Some t c =
+    let first = c.args.k * 64 in
+    let within : first + c.in-Some.i < 64 * length (nodes_of c.args.text.now) = search rules in
+    record {
+      memo = c.requires.memo;
+      answer =
+          entry_recalled (nodes_of c.args.text.now) _ _ (first + c.min-used.result - first) first c.in-Some.i c.args.k _ c.index.result.now c.as-slice.ensures.value within c.requires.memo.entries
+          c.in-Some.ensures.found c.index.ensures;
+    }
+
+pub give-returns-then-used-lt-PLACES : goal.give-returns-then-used-lt-PLACES
+give-returns-then-used-lt-PLACES t c =
+    let m = c.work-out.ensures.memo in
+    let es = vec_items c.work-out.new.memo.entries in
+    let at = c.args.k * 64 + get_or c.work-out.new.memo.used c.args.k 0 in
+    let within : at < length es = search rules in
+    record {
+      memo = record { rows = m.rows; entries = AllWithin-set (EntryRight (nodes_of c.args.text.now)) es _ _ at _ within c.in-Ok.ensures.answer m.entries; sized = m.sized };
+      answer = c.in-Ok.ensures.answer;
+    }
+
+pub give-and-returns-in-Err : goal.give-and-returns-in-Err
+give-and-returns-in-Err t c = record { memo = c.give.ensures.memo; answer = and_first _ _ _ c.in-Err.fault c.in-Err.ensures.answer }
+
+pub give-and-returns-in-Err-give : goal.give-and-returns-in-Err-give
+give-and-returns-in-Err-give t c = record { memo = c.give-2.ensures.memo; answer = and_second _ _ _ c.in-Err-give.fault c.in-Err-give.ensures.answer }
+
+pub give-and-returns-in-Ok-join : goal.give-and-returns-in-Ok-join
+give-and-returns-in-Ok-join t c =
+    record {
+      memo = c.give-2.ensures.memo;
+      answer = and_joined _ _ _ c.in-Ok.copies c.in-Ok-give.copies c.in-Ok.ensures.answer c.in-Ok-give.ensures.answer c.join.new.self c.in-Ok-join.ensures.cases;
+    }
+
+pub give-and-returns-in-Err-join : goal.give-and-returns-in-Err-join
+give-and-returns-in-Err-join t c =
+    record {
+      memo = c.give-2.ensures.memo;
+      answer = and_full _ _ _ c.in-Ok.copies c.in-Ok-give.copies c.in-Ok.ensures.answer c.in-Ok-give.ensures.answer c.in-Err-join.fault c.in-Err-join.ensures.cases;
+    }
+
+pub give-each-loop-q-init : goal.give-each-loop-q-init
+unfolding each some once
+give-each-loop-q-init t c = (c.requires.memo, c.none-all.ensures.value, refl)
+
+pub give-each-returns-in-Err : goal.give-each-returns-in-Err
+give-each-returns-in-Err t c = record { memo = c.give.ensures.memo; answer = each_fault _ c.args.packets.now _ _ c.loop-q-test.true c.in-Err.fault c.in-Err.ensures.answer }
+
+pub give-each-returns-in-Err-join : goal.give-each-returns-in-Err-join
+give-each-returns-in-Err-join t c =
+    record {
+      memo = c.give.ensures.memo;
+      answer =
+          each_full _ c.args.packets.now _ _ c.loop-q-test.true c.loop-q.all c.in-Ok.copies c.loop-q.invariant.1 c.in-Ok.ensures.answer.1 c.in-Err-join.fault
+          c.in-Err-join.ensures.cases;
+    }
+
+pub give-each-loop-q-preserved : goal.give-each-loop-q-preserved
+give-each-loop-q-preserved t c =
+    let inv = c.loop-q.invariant in
+    let more = c.in-Ok.ensures.answer in (
+      c.give.ensures.memo,
+      each_more _ c.args.packets.now _ _ c.loop-q-test.true c.loop-q.all c.in-Ok.copies inv.1 more.1 c.join.new.self c.in-Ok-join.ensures.cases,
+      each_few _ c.args.packets.now _ _ c.loop-q-test.true inv.2 more.0,
+    )
+
+pub give-each-returns : goal.give-each-returns
+give-each-returns t c =
+    let inv = c.loop-q.invariant in
+    record { memo = inv.0; answer = each_all _ c.args.packets.now _ c.loop-q.all c.loop-q-test.false inv.1 inv.2 }
+
+pub give-then-returns-in-Ok : goal.give-then-returns-in-Ok
+give-then-returns-in-Ok t c =
+    record {
+      memo = c.give-each.ensures.memo;
+      answer = then_each _ _ _ c.in-Ok.some _ c.give-each.result c.as-slice.ensures.value c.in-Ok.ensures.answer c.give-each.ensures.answer;
+    }
+
+pub give-then-returns-in-Err : goal.give-then-returns-in-Err
+give-then-returns-in-Err t c = record { memo = c.give.ensures.memo; answer = then_first _ _ _ c.in-Err.fault c.in-Err.ensures.answer }
+
+pub work-out-returns-in-Keep : goal.work-out-returns-in-Keep
+unfolding tree_of
+work-out-returns-in-Keep t c = record { memo = c.give-keep.ensures.memo; answer = answer_of_lem _ _ _ c.give-keep.result (ap as_policy c.in-Keep.ensures.stands.tree) c.give-keep.ensures.answer }
+
+pub work-out-returns-in-Put : goal.work-out-returns-in-Put
+unfolding tree_of
+work-out-returns-in-Put t c =
+    record {
+      memo = c.requires.memo;
+      answer =
+          answer_of_lem _ _ _ (Ok c.one.result) (ap as_policy c.in-Put.ensures.stands.tree)
+          (put_gives c.in-Put.f c.in-Put.x _ _ c.one.result c.put.ensures.value c.one.ensures.value);
+    }
+
+pub work-out-returns-in-And : goal.work-out-returns-in-And
+unfolding tree_of
+work-out-returns-in-And t c = record { memo = c.give-and.ensures.memo; answer = answer_of_lem _ _ _ c.give-and.result (ap as_policy c.in-And.ensures.stands.tree) c.give-and.ensures.answer }
+
+pub work-out-returns-in-Then : goal.work-out-returns-in-Then
+unfolding tree_of
+work-out-returns-in-Then t c = record { memo = c.give-then.ensures.memo; answer = answer_of_lem _ _ _ c.give-then.result (ap as_policy c.in-Then.ensures.stands.tree) c.give-then.ensures.answer }
+
+pub work-out-returns-in-Always : goal.work-out-returns-in-Always
+work-out-returns-in-Always t c =
+    let is = ⊎_elim (ap a_test) (⊎_elim (λ h. ap a_test h.2) (⊎_elim (λ h. ap a_test h.2) (⊎_elim (λ h. ap a_test h.2) (λ h. ap a_test h.1)))) c.in-Always.is in
+    record {
+      memo = c.give-keep-in-Always.ensures.memo;
+      answer = answer_of_lem _ _ _ c.give-keep-in-Always.result (test_keeps _ _ c.node-at.result c.node-at.ensures.stands is) c.give-keep-in-Always.ensures.answer;
+    }

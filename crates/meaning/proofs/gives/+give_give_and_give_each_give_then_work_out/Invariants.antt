@@ -1,0 +1,31 @@
+use Rattle.std.proofs.Common.{◌≡◌, ◌+◌, ◌*◌, max, false, take}
+use Rattle.packet.specs.Packet.{once}
+use Rattle.packet.specs.Policy.{each, copies, some, overfull}
+use Rattle.text.specs.Texts.{nodes_of}
+use Rattle.text.specs.Trees.{trees, policy_at}
+use Rattle.meaning.specs.Answers.{listing}
+use Rattle.meaning.specs.Kept.{Right}
+use Rattle.meaning.specs.Listed.{fields_of}
+use Rattle.meaning.proofs.gives.+give_give_and_give_each_give_then_work_out.Given as goal
+
+-- by the node's number, and for one number by who calls whom
+abbrev pub decreases-give : goal.decreases-give
+decreases-give l = 4 * l.k + 2
+
+abbrev pub decreases-work-out : goal.decreases-work-out
+decreases-work-out l = 4 * l.k + 1
+
+abbrev pub decreases-give-and : goal.decreases-give-and
+decreases-give-and l = 4 * max l.a l.b + 3
+
+abbrev pub decreases-give-each : goal.decreases-give-each
+decreases-give-each l = 4 * l.k + 3
+
+abbrev pub decreases-give-then : goal.decreases-give-then
+decreases-give-then l = 4 * max l.a l.b + 4
+
+abbrev pub invariant-give-each-loop-q : goal.invariant-give-each-loop-q
+invariant-give-each-loop-q l =
+    Right (nodes_of l.text) l.memo
+    × (listing l.all ≡ once (each (copies (policy_at (trees (nodes_of l.text)) l.k)) (fields_of (take l.q-index l.packets))))
+    × (some (overfull (policy_at (trees (nodes_of l.text)) l.k)) (fields_of (take l.q-index l.packets)) ≡ false)

@@ -1,8 +1,0 @@
-use Rattle.std.proofs.Common.{sym}
-use Rattle.plan.proofs.Placing.{granted}
-use Rattle.plan.proofs.Changing.{text_put}
-use Rattle.plan.proofs.change.reads.one.Goals as goal
-
-pub returns-in-Ok-read-nodes : goal.returns-in-Ok-read-nodes
-returns-in-Ok-read-nodes c =
-    record { value = text_put _ _ _ _ _ _ _ c.put.result c.in-Ok.ensures (granted _ c.in-Ok-claim.ensures.value) c.in-Ok-read-nodes.ensures.value c.put.ensures.value }

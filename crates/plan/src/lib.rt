@@ -1,9 +1,0 @@
-// Plans: a text and its table for each switch.
-pub mod builder;
-pub mod change;
-pub mod part;
-pub mod plans;
-
-pub use builder::Builder;
-pub use part::Part;
-pub use plans::Plan;

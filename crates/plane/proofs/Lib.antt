@@ -1,2 +1,0 @@
-mod Indexed
-mod Arriving

@@ -1,3 +1,0 @@
-mod Rows
-mod Placed
-pub mod Laws

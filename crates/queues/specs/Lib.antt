@@ -1,3 +1,0 @@
-pub mod Rows
-pub mod Lines
-pub mod Puts

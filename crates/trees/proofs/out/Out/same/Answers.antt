@@ -1,6 +1,0 @@
--- An out that keeps every field.
-use Rattle.trees.proofs.Applied.{applied-same}
-use Rattle.trees.proofs.out.Out.same.Goals as goal
-
-pub returns : goal.returns
-returns c = record { value = λ p h. applied-same p }
