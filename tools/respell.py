@@ -20,12 +20,13 @@ OLD_CRATE, NEW_CRATE = "bytes", "octets"
 NAME = r"[^\s(){}.;,@\"«»⌜⌝\[\]|]+"
 TOKEN = re.compile(NAME)
 DECLARED = re.compile(r"^\s*(?:abbrev |unfoldable |pub |data |record |\| )*(" + NAME + r"(?: " + NAME + r")*?)(?: \([^()]*\)| \{[^{}]*\})* :(?:\s|$)")
+ANSWERS = re.compile(r"/(?:Answers|Invariants|Choices)\.antt$")
 WORD = re.compile(r"[A-Za-z][A-Za-z0-9'_-]*")
 
 
 def files(kinds):
     for folder, dirs, names in os.walk("crates"):
-        dirs[:] = sorted(d for d in dirs if d != "out")
+        dirs[:] = sorted(d for d in dirs if d != "out" or folder.count(os.sep) > 1)
         for name in sorted(names):
             if name.endswith(kinds):
                 yield os.path.join(folder, name)
@@ -109,7 +110,7 @@ def rows():
     return dict(line.rstrip("\n").split("\t") for line in open(TABLE, encoding="utf-8"))
 
 
-def turn_antt(text, names):
+def turn_antt(text, names, answers):
     aliases = set(re.findall(r" as (\w+)", text))
 
     def one(m):
@@ -120,7 +121,8 @@ def turn_antt(text, names):
         before = text[: m.start()]
         if before.endswith("."):
             head = re.search(r"([\w]+)\.$", before)
-            if "-" in old and not (head and head[1] in aliases and head[1] != "goal"):
+            made = answers and not (head and head[1] in aliases) or head and head[1] == "goal"
+            if "-" in old and made:
                 return old
         return new
 
@@ -140,7 +142,7 @@ def turn():
         old = read(path)
         text = turn_paths(path, old)
         if not path.endswith(".edit"):
-            text = turn_antt(moved(path, text), names)
+            text = turn_antt(moved(path, text), names, ANSWERS.search(path))
         if text != old:
             with open(path, "w", encoding="utf-8") as f:
                 f.write(text)

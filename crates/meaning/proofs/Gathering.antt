@@ -1,7 +1,5 @@
 -- Sets of copies: one packet more, and one set after another.
-use Rattle.std.proofs.Common.{◌≡◌, ℕ, ◌+◌, ◌<◌, ◌≤◌, Bool, true, false, ◌||◌, ltb, List, [], ◌∷◌, ◌++◌, map, length, get_or, take, drop, set, Ok, Err, Decides, Result, sym, refl, ap, ◌∙◌, arith}
-use Rattle.std.proofs.lemmas.Slice.Eq.{bytes_eq-Decides}
-use Rattle.std.proofs.lemmas.Bool.Decides.{same_from_decides}
+use Rattle.std.proofs.Common.{◌≡◌, ℕ, ◌+◌, ◌<◌, ◌≤◌, Bool, true, false, ◌||◌, ltb, List, [], ◌∷◌, ◌++◌, map, length, get_or, take, drop, set, Ok, Err, Result, sym, refl, ap, ◌∙◌, arith}
 use Rattle.std.proofs.lemmas.Bool.{ltb-true, lt-ltb, le-ltb}
 use Rattle.std.proofs.lemmas.List.{append-nil, append_assoc, at_drop_more, at_drop_all, drop_more, get_or-map, length-map, length_push, length-take, take_more_set, map_push}
 use Rattle.octets.specs.declared.fault.Fault.{Fault}
@@ -16,13 +14,13 @@ use Rattle.meaning.specs.Answers.{listing, Told}
 
 -- a packet among the packets from place i on
 module _ (ps : List Packet) (p : packets.Packet) (i : ℕ) where
-  module _ (d : Packet) (r : Bool) (lt : i < length ps) (is : Decides r (p ≡ (get_or ps i d).fields)) where
+  module _ (d : Packet) (r : Bool) (lt : i < length ps) (is : r ≡ same_packet p (get_or ps i d).fields) where
     step : is_in p (drop i (fields_of ps)) ≡ (r || is_in p (drop (i + 1) (fields_of ps)))
     unfolding is_in
     step =
         at_drop_more (is_in p) (fields_of ps) i [] (omega (arith, length-map ps (λ q. q.fields)))
         ∙ ap (λ b. b || is_in p (drop (i + 1) (fields_of ps)))
-        (ap (same_packet p) (get_or-map (λ q. q.fields) ps i d [] lt) ∙ same_from_decides _ _ (bytes_eq-Decides p _) is)
+        (ap (same_packet p) (get_or-map (λ q. q.fields) ps i d [] lt) ∙ sym is)
 
     pub in_found : r ≡ true → is_in p (drop i (fields_of ps)) ≡ true
     in_found e = step ∙ ap (λ b. b || is_in p (drop (i + 1) (fields_of ps))) e

@@ -1,6 +1,7 @@
 // A packet: eight fields of 16 bits, by value. What policies and tables do with packets is defined in specs/.
 ghost use Rattle.std.specs.Prelude.{◌≡◌, ◌<◌, ◌≤◌, ◌++◌, length, take, drop, Decides, MatchOption};
 ghost use Rattle.std.specs.Ordering.{MatchOrdering};
+ghost use Rattle.std.specs.Str.{bytes_eq};
 ghost use Rattle.packet.specs.Packet.{Before, field, put};
 ghost use Rattle.std.specs.Cmp.Rules.{comparing};
 ghost use Rattle.std.proofs.Common.{rules};
@@ -13,11 +14,14 @@ pub struct Packet {
 }
 
 impl PartialEq for Packet {
-    ghost equals = { λ p q r. Decides r (p.fields ≡ q.fields) };
+    ghost eq = { λ p q. bytes_eq p.fields q.fields };
 
     ghost laws = { Prim.search (comparing, rules) };
 
-    fn eq(&self, other: &Packet) -> bool {
+    fn eq(&self, other: &Packet) -> bool
+        ensures value { result ≡ bytes_eq self.now.fields other.now.fields }
+        ensures test { Decides result (self.now.fields ≡ other.now.fields) }
+    {
         self.fields == other.fields
     }
 }

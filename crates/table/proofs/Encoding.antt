@@ -179,8 +179,8 @@ module _ (ws : List ℕ) where
           outs = (ap (λ m. outs_from ws m (wants_end ws e + 1)) k.value ∙ o.read) i;
         };
         there = and_from _ _
-            (and_from _ _ (lt-ltb _ _ w.inside) (and_from _ _ (le-leb (word ws e) 8 (omega (arith, w.value, good.few-wants))) (ap (λ m. row_in ws 2 m (e + 1)) w.value ∙ p.there)))
-            (and_from _ _ (lt-ltb _ _ k.inside) (and_from _ _ (le-leb (word ws (wants_end ws e)) 16 (omega (arith, k.value, good.few-outs))) (ap (λ m. outs_from_in ws m (wants_end ws e + 1)) k.value ∙ o.there)));
+            (and_from _ _ (lt-ltb _ _ w.inside) (and_from _ _ (le-leb (word ws e) 8 (omega (arith, w.value, good.few_wants))) (ap (λ m. row_in ws 2 m (e + 1)) w.value ∙ p.there)))
+            (and_from _ _ (lt-ltb _ _ k.inside) (and_from _ _ (le-leb (word ws (wants_end ws e)) 16 (omega (arith, k.value, good.few_outs))) (ap (λ m. outs_from_in ws m (wants_end ws e + 1)) k.value ∙ o.there)));
         next = ap (λ m. drop (end_from ws m (wants_end ws e + 1)) ws) k.value ∙ o.next;
         inside = w.inside;
       }

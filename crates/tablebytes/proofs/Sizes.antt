@@ -20,8 +20,8 @@ rule_most : (r : Rule) → GoodRule r → length (rule_words r) ≤ 290
 rule_most r g =
     omega (
       arith,
-      g.few-wants,
-      g.few-outs,
+      g.few_wants,
+      g.few_outs,
       joined_most want_words GoodWant 2 (λ w h. omega arith) r.wants g.wants,
       joined_most out_words GoodOut 17 out_most r.outs g.outs,
       length-append (wants_words r.wants) (outs_words r.outs),

@@ -173,8 +173,8 @@ unfolding behind
 rule_form = record {
   back = λ r rest g.
       ap (λ l. and_then (wants l) behind) (append_assoc (wants_bytes r.wants) (outs_bytes r.outs) rest)
-      ∙ ap (λ o. and_then o behind) (wants_form.back r.wants (outs_bytes r.outs ++ rest) (g.few-wants, g.wants))
-      ∙ ap (λ o. and_then o (λ os q. Read (record { wants = r.wants; outs = os }) q)) (outs_form.back r.outs rest (g.few-outs, g.outs));
+      ∙ ap (λ o. and_then o behind) (wants_form.back r.wants (outs_bytes r.outs ++ rest) (g.few_wants, g.wants))
+      ∙ ap (λ o. and_then o (λ os q. Read (record { wants = r.wants; outs = os }) q)) (outs_form.back r.outs rest (g.few_outs, g.outs));
   good =
       yields_then _ GoodRule wants _ wants_form.good (λ ws w. yields_then _ GoodRule outs _ outs_form.good
       (λ os o. yields_read GoodRule (record { wants = ws; outs = os }) (record { few_wants = w.0; wants = w.1; few_outs = o.0; outs = o.1 })));

@@ -29,7 +29,7 @@ module _ (n ports : ℕ) where
         g.free,
         lt-ltb c.other.switch n g.other.switch,
         lt-ltb c.other.port ports g.other.port,
-        g.free-too,
+        g.free_too,
       )
 
   cables_back : (w : Wires) (cs : List Cable) (rest : List ℕ) → AllPluggable n ports w cs →

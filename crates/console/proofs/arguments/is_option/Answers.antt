@@ -4,5 +4,5 @@ use Rattle.std.proofs.lemmas.Bool.{eqb-true}
 use Rattle.console.specs.Words.{is_option}
 use Rattle.console.proofs.arguments.is_option.Goals as goal
 
-pub returns-then-is-empty : goal.returns-then-is-empty
-returns-then-is-empty c = record { value = sym (ap is_option (nil_from_length c.args.word.now (eqb-true _ _ (sym c.if-is-empty.ensures)))) }
+pub returns-then-is_empty : goal.returns-then-is_empty
+returns-then-is_empty c = record { value = sym (ap is_option (nil_from_length c.args.word.now (eqb-true _ _ (sym c.if-is_empty.ensures)))) }

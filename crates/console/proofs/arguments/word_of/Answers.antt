@@ -8,7 +8,7 @@ use Rattle.console.proofs.arguments.word_of.Goals as goal
 pub returns : goal.returns
 returns c =
     let w = c.args.word.now in
-    let help : c.eq-help.result ≡ bytes_eq w (codes "--help") = same_from_decides _ _ c.eq-help.ensures (bytes_eq-Decides w (codes "--help")) in
-    let bytes : c.eq-bytes.result ≡ bytes_eq w (codes "--bytes") = same_from_decides _ _ c.eq-bytes.ensures (bytes_eq-Decides w (codes "--bytes")) in
-    let option : c.is-option-option.result ≡ is_option w = c.is-option-option.ensures.value ∙ ap is_option c.as-bytes.ensures.value in
+    let help : c.eq-help.result ≡ bytes_eq w (codes "--help") = c.eq-help.ensures in
+    let bytes : c.eq-bytes.result ≡ bytes_eq w (codes "--bytes") = c.eq-bytes.ensures in
+    let option : c.is_option-option.result ≡ is_option w = c.is_option-option.ensures.value ∙ ap is_option c.as_bytes.ensures.value in
     record { value = c.chosen.ensures.value ∙ (λ i. sort_of c.args.may (help i) (bytes i) (option i)) }

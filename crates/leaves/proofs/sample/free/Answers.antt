@@ -3,8 +3,8 @@ use Rattle.leaves.specs.Under.{marked, name_of}
 use Rattle.leaves.proofs.Freed.{free_here, free_room, free_next, names_few}
 use Rattle.leaves.proofs.sample.free.Goals as goal
 
-pub overflow-add-x : goal.overflow-add-x
-overflow-add-x c = omega (arith, c.loop-x.invariant.0, names_few c.args.row.now c.args.nodes.now)
+pub overflow_add-x : goal.overflow_add-x
+overflow_add-x c = omega (arith, c.loop-x.invariant.0, names_few c.args.row.now c.args.nodes.now)
 
 pub loop-x-smaller : goal.loop-x-smaller
 loop-x-smaller c =

@@ -3,8 +3,8 @@ use Rattle.std.proofs.lemmas.Bool.{eq-eqb, ne_eqb}
 use Rattle.leaves.proofs.Freed.{has_one, has_none}
 use Rattle.leaves.proofs.sample.has.Goals as goal
 
-pub returns-in-default : goal.returns-in-default
-returns-in-default c = record { value = sym (has_none c.args.f c.args.x c.args.n c.in-default.not-Is c.in-default.not-Put) }
+pub returns-in_default : goal.returns-in_default
+returns-in_default c = record { value = sym (has_none c.args.f c.args.x c.args.n c.in_default.not-Is c.in_default.not-Put) }
 
 pub returns-then-g-f : goal.returns-then-g-f
 returns-then-g-f c =

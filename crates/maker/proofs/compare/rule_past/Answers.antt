@@ -7,7 +7,7 @@ returns-in-Some c =
     record {
       value =
           rule_more c.args.f c.args.ys.now c.args.ns.now _ _ (omega (arith, ltb-false, leb-false, ltb-true, leb-true)) (omega (arith, ltb-false, leb-false, ltb-true, leb-true))
-          c.in-Some.ensures.value c.all-outs-past.ensures.value;
+          c.in-Some.ensures.value c.all_outs_past.ensures.value;
     }
 
 pub returns-in-None : goal.returns-in-None

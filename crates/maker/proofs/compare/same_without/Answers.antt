@@ -5,10 +5,10 @@ use Rattle.maker.proofs.compare.same_without.Goals as goal
 
 pub returns-in-None : goal.returns-in-None
 returns-in-None c =
-    let some = eqb-false (length c.loop-i.ys.now) 0 (sym c.if-is-empty.ensures) in
+    let some = eqb-false (length c.loop-i.ys.now) 0 (sym c.if-is_empty.ensures) in
     record { value = rules_none _ _ _ c.loop-i-test.true c.loop-i.ys.now c.loop-i.ns.now (omega (arith, some)) c.in-None.ensures.value ∙ c.loop-i.invariant }
 
 pub loop-i-preserved : goal.loop-i-preserved
 loop-i-preserved c =
-    let some = eqb-false (length c.loop-i.ys.now) 0 (sym c.if-is-empty.ensures) in
+    let some = eqb-false (length c.loop-i.ys.now) 0 (sym c.if-is_empty.ensures) in
     rules_more _ _ _ c.loop-i-test.true c.loop-i.ys.now c.loop-i.ns.now _ _ (omega (arith, some)) c.in-Some.ensures.value ∙ c.loop-i.invariant

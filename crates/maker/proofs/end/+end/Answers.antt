@@ -2,9 +2,9 @@ use Rattle.std.proofs.Common.{⊎_elim, arith}
 use Rattle.maker.proofs.Ends.{end_none, First, end_first, end_dropped, end_kept}
 use Rattle.maker.proofs.end.+end.Goals as goal
 
-pub returns-in-default : goal.returns-in-default
-returns-in-default t c =
-    record { value = λ table is. end_none table c.args.words.now is c.in-default.ensures.value; bound = omega arith; rules = omega arith }
+pub returns-in_default : goal.returns-in_default
+returns-in_default t c =
+    record { value = λ table is. end_none table c.args.words.now is c.in_default.ensures.value; bound = omega arith; rules = omega arith }
 
 pub returns-then-rules-eq0 : goal.returns-then-rules-eq0
 returns-then-rules-eq0 t c =

@@ -6,8 +6,8 @@ pub returns-in-Some : goal.returns-in-Some
 returns-in-Some c =
     let some : 1 ≤ length c.args.words.now = omega (arith, ltb-false, leb-false, ltb-true, leb-true) in
     record {
-      value = c.counted-after.ensures.value ∙ rule_at_lem c.args.words.now _ some c.in-Some.ensures.value;
+      value = c.counted_after.ensures.value ∙ rule_at_lem c.args.words.now _ some c.in-Some.ensures.value;
       shorter =
-          strictly (λ p. length p.1.now) _ (length c.args.words.now) c.counted-after.result
-          (omega (arith, c.in-Some.ensures.shorter, length_behind c.args.words.now some)) c.counted-after.ensures.shorter;
+          strictly (λ p. length p.1.now) _ (length c.args.words.now) c.counted_after.result
+          (omega (arith, c.in-Some.ensures.shorter, length_behind c.args.words.now some)) c.counted_after.ensures.shorter;
     }

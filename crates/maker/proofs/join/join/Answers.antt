@@ -9,19 +9,19 @@ front y ws = let e : y - 0 ≡ y = omega arith in ap (λ k. take k ws) e
 back : (y n : ℕ) (ws : List ℕ) → take ((y + n) - y) (drop y ws) ≡ take n (drop y ws)
 back y n ws = let e : (y + n) - y ≡ n = omega arith in ap (λ k. take k (drop y ws)) e
 
-pub returns-then-same-without : goal.returns-then-same-without
-returns-then-same-without c = record {
+pub returns-then-same_without : goal.returns-then-same_without
+returns-then-same_without c = record {
   joined = λ s t first second more rest gs gt.
       let ws = c.args.out.now in
-      let same = sym (same_tables c.args.f c.args.y c.args.n ws s t first second true _ _ c.if-same-without.ensures.value (front c.args.y ws) (back c.args.y c.args.n ws)) in
-      (omega arith, joined_same c.args.f c.args.y c.args.n ws s t first second same c.requires.within _ _ c.copy-within.ensures.after rest c.requires.fewer gt);
+      let same = sym (same_tables c.args.f c.args.y c.args.n ws s t first second true _ _ c.if-same_without.ensures.value (front c.args.y ws) (back c.args.y c.args.n ws)) in
+      (omega arith, joined_same c.args.f c.args.y c.args.n ws s t first second same c.requires.within _ _ c.copy_within.ensures.after rest c.requires.fewer gt);
 }
 
 pub returns-then-more-rest-gt-MOST : goal.returns-then-more-rest-gt-MOST
 returns-then-more-rest-gt-MOST c = record {
   joined = λ s t first second more rest gs gt.
       let ws = c.args.out.now in
-      let other = sym (same_tables c.args.f c.args.y c.args.n ws s t first second false _ _ c.if-same-without.ensures.value (front c.args.y ws) (back c.args.y c.args.n ws)) in
+      let other = sym (same_tables c.args.f c.args.y c.args.n ws s t first second false _ _ c.if-same_without.ensures.value (front c.args.y ws) (back c.args.y c.args.n ws)) in
       joined_over c.args.f c.args.y c.args.n ws s t first second other _ _ more rest c.if-more-rest-gt-MOST.true;
 }
 
@@ -29,6 +29,6 @@ pub returns : goal.returns
 returns c = record {
   joined = λ s t first second more rest gs gt.
       let ws = c.args.out.now in
-      let other = sym (same_tables c.args.f c.args.y c.args.n ws s t first second false _ _ c.if-same-without.ensures.value (front c.args.y ws) (back c.args.y c.args.n ws)) in
+      let other = sym (same_tables c.args.f c.args.y c.args.n ws s t first second false _ _ c.if-same_without.ensures.value (front c.args.y ws) (back c.args.y c.args.n ws)) in
       (omega arith, joined_both c.args.f c.args.y c.args.n ws s t first second other _ _ more rest c.if-more-rest-gt-MOST.false gs gt);
 }

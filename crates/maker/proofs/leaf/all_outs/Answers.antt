@@ -8,9 +8,9 @@ use Rattle.maker.proofs.leaf.all_outs.Goals as goal
 pub loop-i-preserved : goal.loop-i-preserved
 loop-i-preserved c =
     let lt : c.loop-i.i < length (outs_of c.args.outs) = omega (arith, c.loop-i-test.true, c.len-count.ensures.value) in (
-      omega (arith, c.one-out-at.ensures.end, c.loop-i.invariant.0),
+      omega (arith, c.one_out-at.ensures.end, c.loop-i.invariant.0),
       appended_more out_words _ (outs_of c.args.outs) _ _ c.loop-i.i [] lt c.loop-i.invariant.1
-          (c.one-out-at.ensures.words ∙ ap (λ x. take c.loop-i.at c.loop-i.out ++ out_words x) c.out.ensures.value),
+          (c.one_out-at.ensures.words ∙ ap (λ x. take c.loop-i.at c.loop-i.out ++ out_words x) c.out.ensures.value),
     )
 
 pub returns : goal.returns

@@ -27,10 +27,10 @@ returns c =
     record {
       text = c.in-Ok.ensures.text;
       made =
-          leaf_made a (known_of c.args.known) c.sample.result.fields is (outs_of outs) c.all-outs-end.new.out c.all-outs-end.result
+          leaf_made a (known_of c.args.known) c.sample.result.fields is (outs_of outs) c.all_outs-end.new.out c.all_outs-end.result
           c.in-Ok.ensures.cases.0 c.in-Ok.ensures.cases.1
           (omega (arith, few_mapped want_of c.args.known.count c.args.known.wants, c.args.known.within)) c.requires.low
           (omega (arith, few_mapped settings_of outs.count outs.outs, outs.within))
-          (c.all-outs-end.ensures.words ∙ ap (λ l. l ++ (length (outs_of outs) ∷ flat_map out_words (outs_of outs))) c.wants-at.ensures.words)
-          (omega (arith, c.all-outs-end.ensures.end, c.wants-at.ensures.end));
+          (c.all_outs-end.ensures.words ∙ ap (λ l. l ++ (length (outs_of outs) ∷ flat_map out_words (outs_of outs))) c.wants-at.ensures.words)
+          (omega (arith, c.all_outs-end.ensures.end, c.wants-at.ensures.end));
     }

@@ -72,8 +72,8 @@ returns-in-Err t c =
       made = turn_crowded_y (plan c.args.evaluator.now) c.args.pairs.now c.args.i c.args.known (length c.args.out.now) c.requires.task c.if-i-pairs.false (sym c.if-knows.ensures.value) c.with.result c.with.ensures.known c.make-2.new.out c.make-2.new.out c.in-Err.fault c.in-Err.ensures.made;
     }
 
-pub make-requires-in-default : goal.make-requires-in-default
-make-requires-in-default t c = (
+pub make-requires-in_default : goal.make-requires-in_default
+make-requires-in_default t c = (
   search rules,
   same_task _ _ c.in-Ok.ensures.text c.args.pairs.now _ c.args.known _
       (task_no (plan c.args.evaluator.now) c.args.pairs.now c.args.i c.args.known (length c.args.out.now) c.requires.task c.if-i-pairs.false (sym c.if-knows.ensures.value) _ (omega (arith, room_for_both (plan c.args.evaluator.now) c.args.pairs.now c.args.i c.args.known (length c.args.out.now) c.requires.task c.if-i-pairs.false (sym c.if-knows.ensures.value)))),
@@ -84,9 +84,9 @@ returns-in-Ok-make t c =
     record {
       text = c.in-Ok-make.ensures.text ∙ c.in-Ok.ensures.text;
       made =
-          turn_over_y (plan c.args.evaluator.now) c.args.pairs.now c.args.i c.args.known (length c.args.out.now) c.requires.task c.if-i-pairs.false (sym c.if-knows.ensures.value) c.with.result c.with.ensures.known c.make-2.new.out c.make-in-default.new.out c.make-in-default.new.out c.in-Ok-make.field-0
-          (subst (λ m. MadeOf (plan c.args.evaluator.now) (wants_of (drop (c.args.i + 1) c.args.pairs.now)) (known_of c.with.result) c.make-2.new.out (Ok m)) c.in-default.is c.in-Ok.ensures.made)
-          (same_made _ _ c.in-Ok.ensures.text (wants_of (drop (c.args.i + 1) c.args.pairs.now)) (known_of c.args.known) c.make-in-default.new.out (Ok c.in-Ok-make.field-0) c.in-Ok-make.ensures.made);
+          turn_over_y (plan c.args.evaluator.now) c.args.pairs.now c.args.i c.args.known (length c.args.out.now) c.requires.task c.if-i-pairs.false (sym c.if-knows.ensures.value) c.with.result c.with.ensures.known c.make-2.new.out c.make-in_default.new.out c.make-in_default.new.out c.in-Ok-make.field-0
+          (subst (λ m. MadeOf (plan c.args.evaluator.now) (wants_of (drop (c.args.i + 1) c.args.pairs.now)) (known_of c.with.result) c.make-2.new.out (Ok m)) c.in_default.is c.in-Ok.ensures.made)
+          (same_made _ _ c.in-Ok.ensures.text (wants_of (drop (c.args.i + 1) c.args.pairs.now)) (known_of c.args.known) c.make-in_default.new.out (Ok c.in-Ok-make.field-0) c.in-Ok-make.ensures.made);
     }
 
 pub returns-in-Err-make : goal.returns-in-Err-make
@@ -94,8 +94,8 @@ returns-in-Err-make t c =
     record {
       text = c.in-Err-make.ensures.text ∙ c.in-Ok.ensures.text;
       made =
-          turn_crowded_n (plan c.args.evaluator.now) c.args.pairs.now c.args.i c.args.known (length c.args.out.now) c.requires.task c.if-i-pairs.false (sym c.if-knows.ensures.value) c.with.result c.with.ensures.known c.make-in-default.new.out c.make-in-default.new.out c.in-Err-make.fault
-          (same_made _ _ c.in-Ok.ensures.text (wants_of (drop (c.args.i + 1) c.args.pairs.now)) (known_of c.args.known) c.make-in-default.new.out (Err c.in-Err-make.fault) c.in-Err-make.ensures.made);
+          turn_crowded_n (plan c.args.evaluator.now) c.args.pairs.now c.args.i c.args.known (length c.args.out.now) c.requires.task c.if-i-pairs.false (sym c.if-knows.ensures.value) c.with.result c.with.ensures.known c.make-in_default.new.out c.make-in_default.new.out c.in-Err-make.fault
+          (same_made _ _ c.in-Ok.ensures.text (wants_of (drop (c.args.i + 1) c.args.pairs.now)) (known_of c.args.known) c.make-in_default.new.out (Err c.in-Err-make.fault) c.in-Err-make.ensures.made);
     }
 
 pub offset-bounds-out-y : goal.offset-bounds-out-y
@@ -120,14 +120,14 @@ make-requires-3 t c = (
       ))),
 )
 
-pub returns-in-default-no : goal.returns-in-default-no
-returns-in-default-no t c =
+pub returns-in_default-no : goal.returns-in_default-no
+returns-in_default-no t c =
     record {
       text = c.in-Ok-make-2.ensures.text ∙ c.in-Ok.ensures.text;
       made =
           turn_over_n (plan c.args.evaluator.now) c.args.pairs.now c.args.i c.args.known (length c.args.out.now) c.requires.task c.if-i-pairs.false (sym c.if-knows.ensures.value) c.with.result c.with.ensures.known c.make-2.new.out c.make-3.new.out c.make-3.new.out c.in-Rules.y c.in-Rules.more
           (subst (λ m. MadeOf (plan c.args.evaluator.now) (wants_of (drop (c.args.i + 1) c.args.pairs.now)) (known_of c.with.result) c.make-2.new.out (Ok m)) c.in-Rules.is c.in-Ok.ensures.made)
-          (subst (λ m. MadeOf (plan c.args.evaluator.now) (wants_of (drop (c.args.i + 1) c.args.pairs.now)) (known_of c.args.known) c.make-3.new.out (Ok m)) c.in-default-no.is (same_made _ _ c.in-Ok.ensures.text (wants_of (drop (c.args.i + 1) c.args.pairs.now)) (known_of c.args.known) c.make-3.new.out (Ok c.in-Ok-make-2.no) c.in-Ok-make-2.ensures.made));
+          (subst (λ m. MadeOf (plan c.args.evaluator.now) (wants_of (drop (c.args.i + 1) c.args.pairs.now)) (known_of c.args.known) c.make-3.new.out (Ok m)) c.in_default-no.is (same_made _ _ c.in-Ok.ensures.text (wants_of (drop (c.args.i + 1) c.args.pairs.now)) (known_of c.args.known) c.make-3.new.out (Ok c.in-Ok-make-2.no) c.in-Ok-make-2.ensures.made));
     }
 
 pub join-requires : goal.join-requires

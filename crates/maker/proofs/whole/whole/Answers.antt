@@ -27,13 +27,13 @@ pub returns-in-Err : goal.returns-in-Err
 returns-in-Err c =
     record { text = c.in-Err.ensures.text; whole = whole_crowded (plan c.args.evaluator.now) c.args.pairs.now c.requires.pairs c.none.result c.none.ensures.known c.requires.product c.make.new.out c.in-Err.fault c.in-Err.ensures.made }
 
-pub returns-in-default : goal.returns-in-default
-returns-in-default c =
+pub returns-in_default : goal.returns-in_default
+returns-in_default c =
     record {
       text = c.in-Ok.ensures.text;
       whole =
           whole_over (plan c.args.evaluator.now) c.args.pairs.now c.requires.pairs c.none.result c.none.ensures.known c.requires.product c.make.new.out
-          (subst (λ m. MadeOf (plan c.args.evaluator.now) (wants_of (drop 0 c.args.pairs.now)) (known_of c.none.result) c.make.new.out (Ok m)) c.in-default.is c.in-Ok.ensures.made);
+          (subst (λ m. MadeOf (plan c.args.evaluator.now) (wants_of (drop 0 c.args.pairs.now)) (known_of c.none.result) c.make.new.out (Ok m)) c.in_default.is c.in-Ok.ensures.made);
     }
 
 pub slice-bounds-end-end : goal.slice-bounds-end-end

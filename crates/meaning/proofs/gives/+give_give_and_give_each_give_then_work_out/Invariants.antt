@@ -12,20 +12,20 @@ use Rattle.meaning.proofs.gives.+give_give_and_give_each_give_then_work_out.Give
 abbrev pub decreases-give : goal.decreases-give
 decreases-give l = 4 * l.k + 2
 
-abbrev pub decreases-work-out : goal.decreases-work-out
-decreases-work-out l = 4 * l.k + 1
+abbrev pub decreases-work_out : goal.decreases-work_out
+decreases-work_out l = 4 * l.k + 1
 
-abbrev pub decreases-give-and : goal.decreases-give-and
-decreases-give-and l = 4 * max l.a l.b + 3
+abbrev pub decreases-give_and : goal.decreases-give_and
+decreases-give_and l = 4 * max l.a l.b + 3
 
-abbrev pub decreases-give-each : goal.decreases-give-each
-decreases-give-each l = 4 * l.k + 3
+abbrev pub decreases-give_each : goal.decreases-give_each
+decreases-give_each l = 4 * l.k + 3
 
-abbrev pub decreases-give-then : goal.decreases-give-then
-decreases-give-then l = 4 * max l.a l.b + 4
+abbrev pub decreases-give_then : goal.decreases-give_then
+decreases-give_then l = 4 * max l.a l.b + 4
 
-abbrev pub invariant-give-each-loop-q : goal.invariant-give-each-loop-q
-invariant-give-each-loop-q l =
+abbrev pub invariant-give_each-loop-q : goal.invariant-give_each-loop-q
+invariant-give_each-loop-q l =
     Right (nodes_of l.text) l.memo
     × (listing l.all ≡ once (each (copies (policy_at (trees (nodes_of l.text)) l.k)) (fields_of (take l.q-index l.packets))))
     × (some (overfull (policy_at (trees (nodes_of l.text)) l.k)) (fields_of (take l.q-index l.packets)) ≡ false)

@@ -11,7 +11,7 @@ returns-then-eq c =
           record {
             at = i;
             within = c.loop-row-test.true;
-            packet = λ d. ap (λ r. r.packet.fields) (get_or_default rows i d _ c.loop-row-test.true) ∙ c.eq.ensures.0 c.if-eq.true;
+            packet = λ d. ap (λ r. r.packet.fields) (get_or_default rows i d _ c.loop-row-test.true) ∙ c.eq.ensures.test.0 c.if-eq.true;
             test = λ d. ap (λ r. get_or r.tests c.args.a false) (get_or_default rows i d _ c.loop-row-test.true);
           };
     }

@@ -13,7 +13,7 @@ returns-in-Some c =
     let long : length (vec_items m.rows) ≡ 32 = omega arith in
     record {
       memo = c.requires.memo;
-      value = row_recalled (nodes_of c.args.text.now) _ _ m.filled _ _ _ c.as-slice.ensures.value long c.requires.memo.rows c.requires.within c.in-Some.ensures.found;
+      value = row_recalled (nodes_of c.args.text.now) _ _ m.filled _ _ _ c.as_slice.ensures.value long c.requires.memo.rows c.requires.within c.in-Some.ensures.found;
     }
 
 pub returns : goal.returns
@@ -22,6 +22,6 @@ returns c =
     let m = c.requires.memo in
     let within : c.if-memo-lt-ROWS.at < length (vec_items c.args.memo.now.rows) = search rules in
     record {
-      memo = record { rows = AllWithin-set (RowRight ns) _ _ _ _ _ within c.row-of-row.ensures.right m.rows; entries = m.entries; sized = (m.sized.0, search rules, m.sized.2) };
-      value = c.row-of-row.ensures.right c.args.a c.requires.within ∙ ap (λ q. holds (test_at (trees ns) c.args.a) q.fields) c.row-of-row.ensures.packet;
+      memo = record { rows = AllWithin-set (RowRight ns) _ _ _ _ _ within c.row_of-row.ensures.right m.rows; entries = m.entries; sized = (m.sized.0, search rules, m.sized.2) };
+      value = c.row_of-row.ensures.right c.args.a c.requires.within ∙ ap (λ q. holds (test_at (trees ns) c.args.a) q.fields) c.row_of-row.ensures.packet;
     }

@@ -32,4 +32,4 @@ pub returns-in-Keep : goal.returns-in-Keep
 returns-in-Keep c =
     let f = tells c.args.row.now c.args.p.fields in
     let is = ⊎_elim (λ h. ap f h.1) (⊎_elim (λ h. ap f h.2) (⊎_elim (λ h. ap f h.2) (λ h. ap f h.2))) c.in-Keep.is in
-    record { value = sym is ∙ told_by _ _ _ _ c.requires.says c.node-at.result c.node-at.ensures.stands }
+    record { value = sym is ∙ told_by _ _ _ _ c.requires.says c.node_at.result c.node_at.ensures.stands }

@@ -1,14 +1,6 @@
-use Rattle.std.specs.Str.{bytes_eq}
-use Rattle.std.proofs.lemmas.Slice.Eq.{slice_eq-Decides, bytes_eq-Decides}
-use Rattle.std.proofs.lemmas.Bool.Decides.{same_from_decides}
 use Rattle.notation.specs.Kinds.{same_word}
 use Rattle.notation.proofs.kind.same.Goals as goal
 
 pub returns : goal.returns
 unfolding same_word
-returns c =
-    let word = c.args.word.now in
-    let name = c.args.name.now in
-    record {
-      value = same_from_decides c.eq.result (bytes_eq word name) (slice_eq-Decides word name c.eq.result c.eq.ensures) (bytes_eq-Decides word name);
-    }
+returns c = record { value = c.eq.ensures }

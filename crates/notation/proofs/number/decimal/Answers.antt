@@ -12,7 +12,7 @@ returns-then-b-lt48 c =
     let i = c.loop-b.b-index in
     let none : is_digit (get_or word i 0) ≡ false = grind (arith, nat_tests, c.then-b-lt48.either) in
     record {
-      value = digit_stop c.loop-b.n word i (omega arith) none ∙ c.loop-b.invariant.0 ∙ number_some word (omega (arith, eqb-false (length word) 0 (sym c.if-is-empty.ensures)));
+      value = digit_stop c.loop-b.n word i (omega arith) none ∙ c.loop-b.invariant.0 ∙ number_some word (omega (arith, eqb-false (length word) 0 (sym c.if-is_empty.ensures)));
     }
 
 pub loop-b-preserved : goal.loop-b-preserved
@@ -21,12 +21,12 @@ loop-b-preserved c =
     let i = c.loop-b.b-index in
     let b = get_or word i 0 in
     let digit : is_digit b ≡ true = and_from (leb 48 b) (leb b 57) (le-leb 48 b (omega arith)) (le-leb b 57 (omega arith)) in
-    (digit_more c.loop-b.n c.saturating-add-n.result word i (omega arith) digit (omega arith) ∙ c.loop-b.invariant.0, omega arith)
+    (digit_more c.loop-b.n c.saturating_add-n.result word i (omega arith) digit (omega arith) ∙ c.loop-b.invariant.0, omega arith)
 
 pub returns : goal.returns
 returns c =
     let word = c.args.word.now in
     let i = c.loop-b.b-index in
     record {
-      value = digit_end c.loop-b.n word i (omega arith) (omega arith) ∙ c.loop-b.invariant.0 ∙ number_some word (omega (arith, eqb-false (length word) 0 (sym c.if-is-empty.ensures)));
+      value = digit_end c.loop-b.n word i (omega arith) (omega arith) ∙ c.loop-b.invariant.0 ∙ number_some word (omega (arith, eqb-false (length word) 0 (sym c.if-is_empty.ensures)));
     }

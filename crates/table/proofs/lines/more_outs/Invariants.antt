@@ -6,5 +6,5 @@ use Rattle.table.proofs.lines.more_outs.Given as goal
 
 abbrev pub invariant-loop-i : goal.invariant-loop-i
 invariant-loop-i l =
-    (outs_from_in l.words (l.n - l.-i) l.place ≡ true)
-    × (string_bytes l.text ++ flat_map (λ o. codes " | " ++ out_text o) (outs_from l.words (l.n - l.-i) l.place) ≡ string_bytes l.initial.text ++ flat_map (λ o. codes " | " ++ out_text o) (outs_from l.words l.n l.at))
+    (outs_from_in l.words (l.n - l._i) l.place ≡ true)
+    × (string_bytes l.text ++ flat_map (λ o. codes " | " ++ out_text o) (outs_from l.words (l.n - l._i) l.place) ≡ string_bytes l.initial.text ++ flat_map (λ o. codes " | " ++ out_text o) (outs_from l.words l.n l.at))

@@ -6,5 +6,5 @@ use Rattle.table.proofs.lines.more_wants.Given as goal
 
 abbrev pub invariant-loop-i : goal.invariant-loop-i
 invariant-loop-i l =
-    (row_in l.words want_size (l.n - l.-i) l.place ≡ true)
-    × (string_bytes l.text ++ flat_map (λ w. codes " " ++ want_text w) (wants_from l.words (l.n - l.-i) l.place) ≡ string_bytes l.initial.text ++ flat_map (λ w. codes " " ++ want_text w) (wants_from l.words l.n l.at))
+    (row_in l.words want_size (l.n - l._i) l.place ≡ true)
+    × (string_bytes l.text ++ flat_map (λ w. codes " " ++ want_text w) (wants_from l.words (l.n - l._i) l.place) ≡ string_bytes l.initial.text ++ flat_map (λ w. codes " " ++ want_text w) (wants_from l.words l.n l.at))

@@ -1,33 +1,33 @@
 use Rattle.std.proofs.Common.{◌≡◌, ℕ, suc, ◌+◌, ◌-◌, true, List, ◌++◌, string_bytes, codes, ap, ◌∙◌, arith}
-use Rattle.table.specs.Lines.{settingText}
-use Rattle.table.specs.Words.{settingSize, word, settingAt, thingIn, row_in, fewIn}
-use Rattle.table.proofs.Steps.{few-parts, row-in-step, row_more, row-none}
-use Rattle.table.proofs.Telling.{made_as, listed_more, listed-none}
+use Rattle.table.specs.Lines.{setting_text}
+use Rattle.table.specs.Words.{setting_size, word, setting_at, thing_in, row_in, few_in}
+use Rattle.table.proofs.Steps.{few_parts, row_in_step, row_more, row_none}
+use Rattle.table.proofs.Telling.{made_as, listed_more, listed_none}
 use Rattle.table.proofs.lines.out.Goals as goal
 
 -- the first one is there, and so are the others
-front : (ws : List ℕ) (e : ℕ) → fewIn ws settingSize e ≡ true → (word ws e ≡ 0 → ⊥) → (thingIn ws settingSize (e + 1) ≡ true) × (row_in ws settingSize (word ws e - 1) (e + 1 + settingSize) ≡ true)
-front ws e h some = row-in-step ws settingSize (word ws e) (word ws e - 1) (e + 1) (omega arith) (few-parts ws settingSize e h).2
+front : (ws : List ℕ) (e : ℕ) → few_in ws setting_size e ≡ true → (word ws e ≡ 0 → ⊥) → (thing_in ws setting_size (e + 1) ≡ true) × (row_in ws setting_size (word ws e - 1) (e + 1 + setting_size) ≡ true)
+front ws e h some = row_in_step ws setting_size (word ws e) (word ws e - 1) (e + 1) (omega arith) (few_parts ws setting_size e h).2
 
 pub returns-then-n-eq0 : goal.returns-then-n-eq0
 returns-then-n-eq0 c =
     let ws = c.args.words.now in
     record {
-      made = made_as _ _ _ _ (listed-none (codes "same") (codes " ") settingText _ _ (row-none (settingAt ws) settingSize _ (c.args.at + 1) c.if-n-eq0.true)) c.say.ensures.made;
+      made = made_as _ _ _ _ (listed_none (codes "same") (codes " ") setting_text _ _ (row_none (setting_at ws) setting_size _ (c.args.at + 1) c.if-n-eq0.true)) c.say.ensures.made;
     }
 
-pub setting-at-requires : goal.setting-at-requires
-setting-at-requires c = record { there = (front c.args.words.now c.args.at c.requires.there c.if-n-eq0.false).0 }
+pub setting_at-requires : goal.setting_at-requires
+setting_at-requires c = record { there = (front c.args.words.now c.args.at c.requires.there c.if-n-eq0.false).0 }
 
-pub more-settings-requires : goal.more-settings-requires
-more-settings-requires c = record { there = (front c.args.words.now c.args.at c.requires.there c.if-n-eq0.false).1 }
+pub more_settings-requires : goal.more_settings-requires
+more_settings-requires c = record { there = (front c.args.words.now c.args.at c.requires.there c.if-n-eq0.false).1 }
 
 pub returns : goal.returns
 returns c =
     let ws = c.args.words.now in
     let e = c.args.at in
     let one : word ws e ≡ suc (word ws e - 1) = omega arith in
-    let wrote = c.in-ok-setting.ensures.made ∙ ap (λ x. string_bytes c.args.text.now ++ settingText x) c.setting-at.ensures.value in
+    let wrote = c.in_ok-setting.ensures.made ∙ ap (λ x. string_bytes c.args.text.now ++ setting_text x) c.setting_at.ensures.value in
     record {
-      made = made_as _ _ _ _ (listed_more (codes "same") (codes " ") settingText _ _ _ (settingAt ws (e + 1)) _ (row_more (settingAt ws) settingSize _ _ _ one) wrote) c.more-settings.ensures.made;
+      made = made_as _ _ _ _ (listed_more (codes "same") (codes " ") setting_text _ _ _ (setting_at ws (e + 1)) _ (row_more (setting_at ws) setting_size _ _ _ one) wrote) c.more_settings.ensures.made;
     }

@@ -19,13 +19,13 @@ returns-then-n-eq0 c =
 pub out-requires : goal.out-requires
 out-requires c = record { there = (front c.args.words.now c.args.at c.requires.there c.if-n-eq0.false).0 }
 
-pub out-end-requires : goal.out-end-requires
-out-end-requires c = record { there = (front c.args.words.now c.args.at c.requires.there c.if-n-eq0.false).0 }
+pub out_end-requires : goal.out_end-requires
+out_end-requires c = record { there = (front c.args.words.now c.args.at c.requires.there c.if-n-eq0.false).0 }
 
-pub more-outs-requires : goal.more-outs-requires
-more-outs-requires c =
+pub more_outs-requires : goal.more_outs-requires
+more_outs-requires c =
     let ws = c.args.words.now in
-    record { there = ap (outs_from_in ws (word ws c.args.at - 1)) c.out-end.ensures.value ∙ (front ws c.args.at c.requires.there c.if-n-eq0.false).1 }
+    record { there = ap (outs_from_in ws (word ws c.args.at - 1)) c.out_end.ensures.value ∙ (front ws c.args.at c.requires.there c.if-n-eq0.false).1 }
 
 pub returns : goal.returns
 returns c =
@@ -35,6 +35,6 @@ returns c =
     let bars = λ (l : ℕ). string_bytes c.out.new.text ++ flat_map (λ o. codes " | " ++ out_text o) (outs_from ws (word ws e - 1) l) in
     record {
       made = made_as _ _ _ _
-          (ap bars c.out-end.ensures.value
-          ∙ listed_more (codes "drop") (codes " | ") out_text _ _ _ (out_at ws (e + 1)) _ (outs_more ws _ _ _ one) c.in-ok-out.ensures.made) c.more-outs.ensures.made;
+          (ap bars c.out_end.ensures.value
+          ∙ listed_more (codes "drop") (codes " | ") out_text _ _ _ (out_at ws (e + 1)) _ (outs_more ws _ _ _ one) c.in_ok-out.ensures.made) c.more_outs.ensures.made;
     }

@@ -15,16 +15,16 @@ loop-at-init c = (most_rules, walk_start _ c.requires.sound, refl)
 pub rule-requires : goal.rule-requires
 rule-requires c = record { there = (front (goal.at.rule-requires c).In-loop-at).there }
 
-pub rule-end-at-requires : goal.rule-end-at-requires
-rule-end-at-requires c = record { there = (front (goal.at.rule-end-at-requires c).In-loop-at).there }
+pub rule_end-at-requires : goal.rule_end-at-requires
+rule_end-at-requires c = record { there = (front (goal.at.rule_end-at-requires c).In-loop-at).there }
 
 pub loop-at-preserved : goal.loop-at-preserved
 loop-at-preserved c =
     let ws = c.args.words.now in
     let f = front (goal.at.loop-at-preserved c).In-loop-at in
     let left = c.loop-at.invariant.0 - 1 in
-    let end = c.rule-end-at.ensures.value in
-    let more = told_more rule_line _ _ _ c.loop-at.invariant.2 _ (rule_at ws c.loop-at.at) _ f.rules c.in-ok-rule.ensures.made in (
+    let end = c.rule_end-at.ensures.value in
+    let more = told_more rule_line _ _ _ c.loop-at.invariant.2 _ (rule_at ws c.loop-at.at) _ f.rules c.in_ok-rule.ensures.made in (
       left,
       subst (Walk ws left) (sym end) f.walk,
       ap (λ e. string_bytes c.rule.new.text ++ table_text (rules_from ws left e)) end ∙ more,

@@ -16,18 +16,18 @@ returns-then-n-eq0 c =
       made = made_as _ _ _ _ (listed_none (codes "any") (codes " ") want_text _ _ (row_none (want_at ws) want_size _ (c.args.at + 1) c.if-n-eq0.true)) c.say.ensures.made;
     }
 
-pub want-at-requires : goal.want-at-requires
-want-at-requires c = record { there = (front c.args.words.now c.args.at c.requires.there c.if-n-eq0.false).0 }
+pub want_at-requires : goal.want_at-requires
+want_at-requires c = record { there = (front c.args.words.now c.args.at c.requires.there c.if-n-eq0.false).0 }
 
-pub more-wants-requires : goal.more-wants-requires
-more-wants-requires c = record { there = (front c.args.words.now c.args.at c.requires.there c.if-n-eq0.false).1 }
+pub more_wants-requires : goal.more_wants-requires
+more_wants-requires c = record { there = (front c.args.words.now c.args.at c.requires.there c.if-n-eq0.false).1 }
 
 pub returns : goal.returns
 returns c =
     let ws = c.args.words.now in
     let e = c.args.at in
     let one : word ws e ≡ suc (word ws e - 1) = omega arith in
-    let wrote = c.in-ok-want.ensures.made ∙ ap (λ x. string_bytes c.args.text.now ++ want_text x) c.want-at.ensures.value in
+    let wrote = c.in_ok-want.ensures.made ∙ ap (λ x. string_bytes c.args.text.now ++ want_text x) c.want_at.ensures.value in
     record {
-      made = made_as _ _ _ _ (listed_more (codes "any") (codes " ") want_text _ _ _ (want_at ws (e + 1)) _ (row_more (want_at ws) want_size _ _ _ one) wrote) c.more-wants.ensures.made;
+      made = made_as _ _ _ _ (listed_more (codes "any") (codes " ") want_text _ _ _ (want_at ws (e + 1)) _ (row_more (want_at ws) want_size _ _ _ one) wrote) c.more_wants.ensures.made;
     }

@@ -9,8 +9,8 @@ use Rattle.table.proofs.matching.copies.Goals as goal
 use Rattle.table.proofs.matching.copies.Goals.{In-loop-i}
 
 here : (c : In-loop-i) → (few_in c.args.words.now setting_size c.loop-i.place ≡ true)
-    × (outs_from_in c.args.words.now (word c.args.words.now c.args.at - (c.loop-i.-i + 1)) (out_end c.args.words.now c.loop-i.place) ≡ true)
-here c = outs_in_step _ (word c.args.words.now c.args.at - c.loop-i.-i) _ _ (omega arith) c.loop-i.invariant.0
+    × (outs_from_in c.args.words.now (word c.args.words.now c.args.at - (c.loop-i._i + 1)) (out_end c.args.words.now c.loop-i.place) ≡ true)
+here c = outs_in_step _ (word c.args.words.now c.args.at - c.loop-i._i) _ _ (omega arith) c.loop-i.invariant.0
 
 pub loop-i-init : goal.loop-i-init
 loop-i-init c =
@@ -26,16 +26,16 @@ loop-i-init c =
 pub copy-requires : goal.copy-requires
 copy-requires c = record { there = (here (goal.at.copy-requires c).In-loop-i).0 }
 
-pub out-end-place-requires : goal.out-end-place-requires
-out-end-place-requires c = record { there = (here (goal.at.out-end-place-requires c).In-loop-i).0 }
+pub out_end-place-requires : goal.out_end-place-requires
+out_end-place-requires c = record { there = (here (goal.at.out_end-place-requires c).In-loop-i).0 }
 
 pub loop-i-preserved : goal.loop-i-preserved
 loop-i-preserved c =
     let ws = c.args.words.now in
     let p = c.args.p.fields in
-    let left = word ws c.args.at - (c.loop-i.-i + 1) in
-    let one : word ws c.args.at - c.loop-i.-i ≡ suc left = omega arith in
-    let is = c.out-end-place.ensures.value in
+    let left = word ws c.args.at - (c.loop-i._i + 1) in
+    let one : word ws c.args.at - c.loop-i._i ≡ suc left = omega arith in
+    let is = c.out_end-place.ensures.value in
     let all = c.with-sent.ensures.value ∙ ap (λ q. once (copies_of c.loop-i.sent ++ q ∷ [])) c.copy.ensures.value in (
       ap (outs_from_in ws left) is ∙ (here (goal.at.loop-i-preserved c).In-loop-i).1,
       omega (arith, c.with-sent.ensures.count, c.loop-i.invariant.1),
@@ -45,5 +45,5 @@ loop-i-preserved c =
 pub returns : goal.returns
 returns c =
     let ws = c.args.words.now in
-    let end = outputs_none ws c.args.p.fields (word ws c.args.at - c.loop-i.-i) c.loop-i.place (copies_of c.loop-i.sent) (omega arith) in
+    let end = outputs_none ws c.args.p.fields (word ws c.args.at - c.loop-i._i) c.loop-i.place (copies_of c.loop-i.sent) (omega arith) in
     record { value = sym (end ∙ c.loop-i.sent.apart) ∙ c.loop-i.invariant.2 }

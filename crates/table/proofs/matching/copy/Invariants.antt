@@ -5,5 +5,5 @@ use Rattle.table.proofs.matching.copy.Given as goal
 
 abbrev pub invariant-loop-i : goal.invariant-loop-i
 invariant-loop-i l =
-    (row_in l.words setting_size (word l.words l.at - l.-i) l.place ≡ true)
-    × (set_all (settings_from l.words (word l.words l.at - l.-i) l.place) l.q.fields ≡ set_all (out_at l.words l.at) l.initial.q.fields)
+    (row_in l.words setting_size (word l.words l.at - l._i) l.place ≡ true)
+    × (set_all (settings_from l.words (word l.words l.at - l._i) l.place) l.q.fields ≡ set_all (out_at l.words l.at) l.initial.q.fields)

@@ -5,4 +5,4 @@ use Rattle.table.proofs.places.outs_from_in.Given as goal
 abbrev pub invariant-loop-i : goal.invariant-loop-i
 invariant-loop-i l =
     (l.place ≤ length l.words)
-    × (outs_from_in l.words (l.n - l.-i) l.place ≡ outs_from_in l.words l.n l.at)
+    × (outs_from_in l.words (l.n - l._i) l.place ≡ outs_from_in l.words l.n l.at)

@@ -5,4 +5,4 @@ use Rattle.table.proofs.places.row_in.Given as goal
 abbrev pub invariant-loop-i : goal.invariant-loop-i
 invariant-loop-i l =
     (l.place ≤ length l.words)
-    × (row_in l.words l.size (l.n - l.-i) l.place ≡ row_in l.words l.size l.n l.at)
+    × (row_in l.words l.size (l.n - l._i) l.place ≡ row_in l.words l.size l.n l.at)

@@ -10,8 +10,8 @@ front c = walk_more _ _ _ c.loop-at.invariant.1 c.loop-at-test.true
 pub loop-at-init : goal.loop-at-init
 loop-at-init c = (most_rules, walk_start _ c.requires.sound, omega arith, omega arith)
 
-pub rule-end-at-requires : goal.rule-end-at-requires
-rule-end-at-requires c = record { there = (front (goal.at.rule-end-at-requires c).In-loop-at).there }
+pub rule_end-at-requires : goal.rule_end-at-requires
+rule_end-at-requires c = record { there = (front (goal.at.rule_end-at-requires c).In-loop-at).there }
 
 pub loop-at-preserved : goal.loop-at-preserved
 loop-at-preserved c =
@@ -19,7 +19,7 @@ loop-at-preserved c =
     let f = front (goal.at.loop-at-preserved c).In-loop-at in
     let left = c.loop-at.invariant.0 - 1 in
     let some = sound_some ws c.loop-at.invariant.0 c.loop-at.at c.loop-at.invariant.1.sound c.loop-at-test.true in
-    let end = c.rule-end-at.ensures.value in (
+    let end = c.rule_end-at.ensures.value in (
       left,
       subst (Walk ws left) (sym end) f.walk,
       omega (arith, some, c.loop-at.invariant.2),

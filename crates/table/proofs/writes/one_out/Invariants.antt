@@ -6,7 +6,7 @@ use Rattle.table.proofs.writes.one_out.Given as goal
 
 abbrev pub invariant-loop-i : goal.invariant-loop-i
 invariant-loop-i l =
-    (row_in l.words setting_size (l.n - l.-i) l.place ≡ true)
-    × (l.place ≡ l.at + 1 + setting_size * l.-i)
+    (row_in l.words setting_size (l.n - l._i) l.place ≡ true)
+    × (l.place ≡ l.at + 1 + setting_size * l._i)
     × (vec_len l.out + 2 * (length l.words - l.place) ≤ vec_capacity l.out)
-    × (vec_items l.out ++ flat_map setting_bytes (settings_from l.words (l.n - l.-i) l.place) ≡ vec_items l.initial.out ++ flat_map setting_bytes (settings_from l.words l.n l.initial.place))
+    × (vec_items l.out ++ flat_map setting_bytes (settings_from l.words (l.n - l._i) l.place) ≡ vec_items l.initial.out ++ flat_map setting_bytes (settings_from l.words l.n l.initial.place))

@@ -10,8 +10,8 @@ use Rattle.table.proofs.writes.outs.Goals as goal
 use Rattle.table.proofs.writes.outs.Goals.{In-loop-i}
 
 here : (c : In-loop-i) → (few_in c.args.words.now setting_size c.loop-i.place ≡ true)
-    × (outs_from_in c.args.words.now (word c.args.words.now c.args.at - (c.loop-i.-i + 1)) (out_end c.args.words.now c.loop-i.place) ≡ true)
-here c = outs_in_step _ (word c.args.words.now c.args.at - c.loop-i.-i) _ _ (omega arith) c.loop-i.invariant.0
+    × (outs_from_in c.args.words.now (word c.args.words.now c.args.at - (c.loop-i._i + 1)) (out_end c.args.words.now c.loop-i.place) ≡ true)
+here c = outs_in_step _ (word c.args.words.now c.args.at - c.loop-i._i) _ _ (omega arith) c.loop-i.invariant.0
 
 pub loop-i-init : goal.loop-i-init
 loop-i-init c =
@@ -24,23 +24,23 @@ loop-i-init c =
       ap (λ k. vec_items c.append.new.out ++ flat_map out_bytes (outs_from ws k (c.args.at + 1))) n,
     )
 
-pub one-out-requires : goal.one-out-requires
-one-out-requires c = record { there = (here (goal.at.one-out-requires c).In-loop-i).0; room = c.loop-i.invariant.2 }
+pub one_out-requires : goal.one_out-requires
+one_out-requires c = record { there = (here (goal.at.one_out-requires c).In-loop-i).0; room = c.loop-i.invariant.2 }
 
-pub out-end-place-requires : goal.out-end-place-requires
-out-end-place-requires c = record { there = (here (goal.at.out-end-place-requires c).In-loop-i).0 }
+pub out_end-place-requires : goal.out_end-place-requires
+out_end-place-requires c = record { there = (here (goal.at.out_end-place-requires c).In-loop-i).0 }
 
 pub loop-i-preserved : goal.loop-i-preserved
 loop-i-preserved c =
     let ws = c.args.words.now in
-    let left = word ws c.args.at - (c.loop-i.-i + 1) in
-    let one : word ws c.args.at - c.loop-i.-i ≡ suc left = omega arith in
-    let end = c.out-end-place.ensures.value in
-    let more = told_more out_bytes _ _ _ c.loop-i.invariant.3 _ (out_at ws c.loop-i.place) _ (outs_more ws _ _ _ one) c.one-out.ensures.items in (
+    let left = word ws c.args.at - (c.loop-i._i + 1) in
+    let one : word ws c.args.at - c.loop-i._i ≡ suc left = omega arith in
+    let end = c.out_end-place.ensures.value in
+    let more = told_more out_bytes _ _ _ c.loop-i.invariant.3 _ (out_at ws c.loop-i.place) _ (outs_more ws _ _ _ one) c.one_out.ensures.items in (
       ap (outs_from_in ws left) end ∙ (here (goal.at.loop-i-preserved c).In-loop-i).1,
       ap (end_from ws left) end ∙ sym (end_more ws _ _ _ one) ∙ c.loop-i.invariant.1,
-      omega (arith, end, c.one-out.ensures.room),
-      ap (λ e. vec_items c.one-out.new.out ++ flat_map out_bytes (outs_from ws left e)) end ∙ more,
+      omega (arith, end, c.one_out.ensures.room),
+      ap (λ e. vec_items c.one_out.new.out ++ flat_map out_bytes (outs_from ws left e)) end ∙ more,
     )
 
 pub returns : goal.returns
@@ -49,8 +49,8 @@ returns c =
     let old = vec_items c.args.out.now in
     let n = word ws c.args.at in
     let all = flat_map out_bytes (outs_from ws n (c.args.at + 1)) in
-    let done = told_all out_bytes _ _ _ c.loop-i.invariant.3 (outs_none ws (n - c.loop-i.-i) _ (omega arith)) in
-    let end = sym (end_none ws (n - c.loop-i.-i) _ (omega arith)) ∙ c.loop-i.invariant.1 in
+    let done = told_all out_bytes _ _ _ c.loop-i.invariant.3 (outs_none ws (n - c.loop-i._i) _ (omega arith)) in
+    let end = sym (end_none ws (n - c.loop-i._i) _ (omega arith)) ∙ c.loop-i.invariant.1 in
     record {
       items =
           done ∙ ap (λ l. l ++ all) c.append.ensures.items ∙ append_assoc old (n ∷ []) all

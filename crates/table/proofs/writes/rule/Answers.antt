@@ -11,14 +11,14 @@ wants-requires c = record { there = (rule_parts c.args.words.now c.args.at c.req
 pub outs-requires : goal.outs-requires
 outs-requires c =
     let ws = c.args.words.now in
-    let is = c.wants-end.ensures.value in
+    let is = c.wants_end.ensures.value in
     record { there = ap (outs_in ws) is ∙ (rule_parts ws c.args.at c.requires.there).1; room = omega (arith, is, c.wants.ensures.room) }
 
 pub returns : goal.returns
 returns c =
     let ws = c.args.words.now in
     let k = wants_end ws c.args.at in
-    let is = c.wants-end.ensures.value in
+    let is = c.wants_end.ensures.value in
     record {
       items =
           c.outs.ensures.items ∙ (λ i. c.wants.ensures.items i ++ outs_bytes (outs_at ws (is i)))

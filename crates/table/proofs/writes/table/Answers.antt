@@ -13,5 +13,5 @@ returns c =
     record {
       cases =
           c.rules.ensures.items ∙ ap (λ l. l ++ all) c.append.ensures.items
-          ∙ (λ i. (c.in-ok-reserve.ensures.items i ++ word_bytes (c.count-n.ensures.value i)) ++ all) ∙ append_assoc old _ all;
+          ∙ (λ i. (c.in_ok-reserve.ensures.items i ++ word_bytes (c.count-n.ensures.value i)) ++ all) ∙ append_assoc old _ all;
     }

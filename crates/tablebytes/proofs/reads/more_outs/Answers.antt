@@ -7,8 +7,8 @@ use Rattle.tablebytes.proofs.reads.more_outs.Goals as goal
 pub loop-i-init : goal.loop-i-init
 loop-i-init c = (going_none out out_words _ _ _ _, omega arith)
 
-pub one-out-requires : goal.one-out-requires
-one-out-requires c = record { room = omega (arith, c.loop-i.invariant.1) }
+pub one_out-requires : goal.one_out-requires
+one_out-requires c = record { room = omega (arith, c.loop-i.invariant.1) }
 
 pub returns-in-Err : goal.returns-in-Err
 returns-in-Err c = record { gave = going_stop out out_words _ _ _ _ _ _ _ _ c.loop-i.invariant.0 _ c.loop-i-test.true c.in-Err.ensures.gave; few = tt }

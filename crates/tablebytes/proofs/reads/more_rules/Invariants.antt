@@ -7,5 +7,5 @@ use Rattle.tablebytes.proofs.reads.more_rules.Given as goal
 
 abbrev pub invariant-loop-i : goal.invariant-loop-i
 invariant-loop-i l =
-    Going rule rule_words l.n l.-i (rest l.initial.c) (rest l.c) 0 l.initial.out l.end l.out
-    × (l.end ≤ 290 * l.-i)
+    Going rule rule_words l.n l._i (rest l.initial.c) (rest l.c) 0 l.initial.out l.end l.out
+    × (l.end ≤ 290 * l._i)

@@ -7,5 +7,5 @@ use Rattle.tablebytes.proofs.reads.more_settings.Given as goal
 
 abbrev pub invariant-loop-i : goal.invariant-loop-i
 invariant-loop-i l =
-    Going setting setting_words l.n l.-i (rest l.initial.c) (rest l.c) l.at l.initial.out l.end l.out
-    × (l.end ≤ l.at + 2 * l.-i)
+    Going setting setting_words l.n l._i (rest l.initial.c) (rest l.c) l.at l.initial.out l.end l.out
+    × (l.end ≤ l.at + 2 * l._i)

@@ -8,8 +8,8 @@ use Rattle.tablebytes.proofs.reads.one_out.Goals as goal
 
 pub returns : goal.returns
 returns c =
-    let n = c.in-ok-n.n in
+    let n = c.in_ok-n.n in
     record {
-      gave = gave_counted setting setting_words _ n _ _ _ _ _ _ _ (counted_is setting setting_words byte 8 2 n _ _ c.in-ok-n.ensures (omega arith)) c.put.ensures.after c.more-settings.ensures.gave;
-      few = IfOk-weaker _ (λ end. end ≤ c.args.at + 1 + 2 * n) (λ end. end ≤ c.args.at + 17) (λ end h. omega arith) c.more-settings.ensures.few;
+      gave = gave_counted setting setting_words _ n _ _ _ _ _ _ _ (counted_is setting setting_words byte 8 2 n _ _ c.in_ok-n.ensures (omega arith)) c.put.ensures.after c.more_settings.ensures.gave;
+      few = IfOk-weaker _ (λ end. end ≤ c.args.at + 1 + 2 * n) (λ end. end ≤ c.args.at + 17) (λ end h. omega arith) c.more_settings.ensures.few;
     }

@@ -10,7 +10,7 @@ use Rattle.tablebytes.proofs.reads.read.Goals as goal
 pub returns : goal.returns
 returns c =
     let bs = c.args.bytes.now in
-    let done = c.if-not-is-done.ensures.0 refl in
+    let done = c.if-not-is_done.ensures.0 refl in
     let s = sized_is (table bs) c.in-Ok.n [] (ap (Read c.in-Ok.n) (sym done) ∙ c.in-Ok.ensures.value ∙ ap (λ l. sized (table l)) c.new-c.ensures) in
     let gave = subst (λ l. Gave encode (table l) (rest c.fill.new.c) 0 c.args.words.now c.fill.new.out c.fill.result) c.new-again.ensures c.fill.ensures.gave in
     let room : length (encode s.what) ≤ length c.args.words.now = omega (arith, s.long) in

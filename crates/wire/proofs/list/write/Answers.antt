@@ -12,6 +12,6 @@ returns c =
     record {
       cases =
           in_turn (vec_items c.args.out.now) (c.args.switches ∷ (c.args.ports ∷ (c.args.hops ∷ word_bytes (length cs))))
-          (flat_map cable_bytes cs) (word_bytes (length es)) (flat_map end_bytes es) _ _ _ _ _ c.in-ok-reserve.ensures.items
-          c.append.ensures.items c.append-cables.ensures.items c.append-2.ensures.items c.append-ends.ensures.items;
+          (flat_map cable_bytes cs) (word_bytes (length es)) (flat_map end_bytes es) _ _ _ _ _ c.in_ok-reserve.ensures.items
+          c.append.ensures.items c.append_cables.ensures.items c.append-2.ensures.items c.append_ends.ensures.items;
     }

@@ -5,22 +5,22 @@ use Rattle.leaves.proofs.outs.Out.is_less.Goals as goal
 pub returns-then-i-other : goal.returns-then-i-other
 returns-then-i-other c = record { value = sym (shorter c.args.self.now c.args.other.now c.loop-i.i c.loop-i-test.true c.if-i-other.true) ∙ c.loop-i.invariant.1 }
 
-pub returns-then-comes-before : goal.returns-then-comes-before
-returns-then-comes-before c =
-    record { value = sym (less_here c.args.self.now c.args.other.now c.loop-i.i c.loop-i-test.true c.if-i-other.false _ (sym c.if-comes-before.ensures.value)) ∙ c.loop-i.invariant.1 }
+pub returns-then-comes_before : goal.returns-then-comes_before
+returns-then-comes_before c =
+    record { value = sym (less_here c.args.self.now c.args.other.now c.loop-i.i c.loop-i-test.true c.if-i-other.false _ (sym c.if-comes_before.ensures.value)) ∙ c.loop-i.invariant.1 }
 
-pub returns-then-comes-before-2 : goal.returns-then-comes-before-2
-returns-then-comes-before-2 c =
+pub returns-then-comes_before-2 : goal.returns-then-comes_before-2
+returns-then-comes_before-2 c =
     record {
       value =
-          sym (more_here c.args.self.now c.args.other.now c.loop-i.i c.loop-i-test.true c.if-i-other.false _ (sym c.if-comes-before.ensures.value) (sym c.if-comes-before-2.ensures.value))
+          sym (more_here c.args.self.now c.args.other.now c.loop-i.i c.loop-i-test.true c.if-i-other.false _ (sym c.if-comes_before.ensures.value) (sym c.if-comes_before-2.ensures.value))
           ∙ c.loop-i.invariant.1;
     }
 
 pub loop-i-preserved : goal.loop-i-preserved
 loop-i-preserved c = (
   omega arith,
-  sym (same_here c.args.self.now c.args.other.now c.loop-i.i c.loop-i-test.true c.if-i-other.false _ (sym c.if-comes-before.ensures.value) (sym c.if-comes-before-2.ensures.value))
+  sym (same_here c.args.self.now c.args.other.now c.loop-i.i c.loop-i-test.true c.if-i-other.false _ (sym c.if-comes_before.ensures.value) (sym c.if-comes_before-2.ensures.value))
       ∙ c.loop-i.invariant.1,
 )
 

@@ -4,8 +4,8 @@ use Rattle.meaning.specs.Evaluators.{text_of}
 use Rattle.leaves.proofs.Outcome.{few_copies, last-answered, leaf_given}
 use Rattle.leaves.proofs.outs.Outs.of.Goals as goal
 
-pub from-copies-requires : goal.from-copies-requires
-from-copies-requires c = record { few = few_copies c.in-Ok.copies _ c.as-slice.ensures.value }
+pub from_copies-requires : goal.from_copies-requires
+from_copies-requires c = record { few = few_copies c.in-Ok.copies _ c.as_slice.ensures.value }
 
 pub returns-in-Ok : goal.returns-in-Ok
 returns-in-Ok c =
@@ -14,7 +14,7 @@ returns-in-Ok c =
     record {
       text = c.copies.ensures.text;
       cases =
-          leaf_given ns c.args.p.fields c.in-Ok.copies _ c.from-copies.result
+          leaf_given ns c.args.p.fields c.in-Ok.copies _ c.from_copies.result
           (last-answered ns _ c.args.p.fields (Ok c.in-Ok.copies) (omega (arith, long)) (ap (λ n. n - 1) long) c.in-Ok.ensures.cases)
-          c.as-slice.ensures.value c.from-copies.ensures.value;
+          c.as_slice.ensures.value c.from_copies.ensures.value;
     }

@@ -5,8 +5,8 @@ use Rattle.leaves.proofs.Fronts.{front_long, front_at}
 use Rattle.leaves.proofs.Placed.{place_here, place_more, place_end}
 use Rattle.leaves.proofs.outs.Outs.place.Goals as goal
 
-pub returns-then-not-is-less : goal.returns-then-not-is-less
-returns-then-not-is-less c =
+pub returns-then-not-is_less : goal.returns-then-not-is_less
+returns-then-not-is_less c =
     let s = c.args.self.now in
     let le : s.count ≤ length s.outs = omega arith in
     record {
@@ -14,7 +14,7 @@ returns-then-not-is-less c =
       place =
           place_here less_out _ (outs_of s) c.loop-i.i c.loop-i.invariant _ (omega (arith, front_long settings_of s.outs s.count le))
           (λ d. front_at settings_of s.outs s.count le c.loop-i.i _ d c.loop-i-test.true)
-          (sym c.if-not-is-less.ensures.value);
+          (sym c.if-not-is_less.ensures.value);
     }
 
 pub loop-i-preserved : goal.loop-i-preserved
@@ -23,7 +23,7 @@ loop-i-preserved c =
     let le : s.count ≤ length s.outs = omega arith in
     place_more less_out (settings_of c.args.o.now) (outs_of s) c.loop-i.i c.loop-i.invariant _ (omega (arith, front_long settings_of s.outs s.count le))
     (λ d. front_at settings_of s.outs s.count le c.loop-i.i _ d c.loop-i-test.true)
-    (sym c.if-not-is-less.ensures.value)
+    (sym c.if-not-is_less.ensures.value)
 
 pub returns : goal.returns
 returns c =

@@ -8,12 +8,12 @@ use Rattle.leaves.proofs.Gathered.{pair_more, pair_unmarked, pair_other, pairs_a
 use Rattle.leaves.proofs.Marking.{marked_none}
 use Rattle.leaves.specs.Under.{test_of}
 use Rattle.leaves.proofs.pairs.Pairs.of.Goals as goal
-use Rattle.leaves.proofs.pairs.Pairs.of.Goals.{in-Is+then-row-k, in-Is+else-row-k, in-default}
+use Rattle.leaves.proofs.pairs.Pairs.of.Goals.{in-Is+then-row-k, in-Is+else-row-k, in_default}
 
 pub loop-k-init : goal.loop-k-init
 unfolding rising
 loop-k-init c =
-    let none = c.in-ok-items.ensures.made in
+    let none = c.in_ok-items.ensures.made in
     (omega (arith, none.1), omega (arith, none.1), ap wants_of none.0 ∙ sym (ap (rising less_want) (marked_none test_of c.under-row.result)))
 
 pub loop-k-preserved : goal.loop-k-preserved
@@ -40,18 +40,19 @@ loop-k-preserved c =
       | in-default w ↦ (
         omega (arith, ap vec_len w.items-is, inv.0),
         omega (arith, ap vec_capacity w.items-is, inv.1),
-        ap (λ v. wants_of (vec_items v)) w.items-is ∙ inv.2 ∙ sym (pair_other row ns k lt (λ f x e. w.in-default.not-Is f x (sym same ∙ e))),
+        ap (λ v. wants_of (vec_items v)) w.items-is ∙ inv.2 ∙ sym (pair_other row ns k lt (λ f x e. w.in_default.not-Is f x (sym same ∙ e))),
       )
     ]
 
-pub invariant-of-result : goal.invariant-of-result
-invariant-of-result c =
+pub invariant_of-result : goal.invariant_of-result
+invariant_of-result c =
     let t = c.args.text.now in
     let k = c.loop-k.k in
-    let le : length (nodes_of t) ≤ k = omega (arith, ap length c.nodes-n-items.ensures.value) in (
-      omega (arith, c.loop-k.invariant.0),
-      (pairs_low c.under-row.result _ (nodes_of t) (vec_items c.loop-k.items) _ t.sound (sym (take_all k (nodes_of t) le)) (omega arith) c.loop-k.invariant.2, tt),
-    )
+    let le : length (nodes_of t) ≤ k = omega (arith, ap length c.nodes-n-items.ensures.value) in
+    record {
+      few = omega (arith, c.loop-k.invariant.0);
+      low = pairs_low c.under-row.result _ (nodes_of t) (vec_items c.loop-k.items) _ t.sound (sym (take_all k (nodes_of t) le)) (omega arith) c.loop-k.invariant.2;
+    }
 
 pub returns : goal.returns
 returns c =

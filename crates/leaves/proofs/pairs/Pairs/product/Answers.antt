@@ -10,12 +10,12 @@ loop-f-init c = (refl, omega arith)
 pub returns-then-all-gt-LEAVES : goal.returns-then-all-gt-LEAVES
 returns-then-all-gt-LEAVES c =
     let ws = pairs_in c.args.self.now in
-    let e = product_step c.loop-f.f _ _ ws _ c.loop-f.invariant.0 c.values-all.ensures.value (ap wants_of c.as-slice.ensures.value) in
+    let e = product_step c.loop-f.f _ _ ws _ c.loop-f.invariant.0 c.values-all.ensures.value (ap wants_of c.as_slice.ensures.value) in
     record { cases = omega (arith, e, product_within (c.loop-f.f + 1) ws (omega arith), c.if-all-gt-LEAVES.true) }
 
 pub loop-f-preserved : goal.loop-f-preserved
 loop-f-preserved c = (
-  product_step c.loop-f.f _ _ (pairs_in c.args.self.now) _ c.loop-f.invariant.0 c.values-all.ensures.value (ap wants_of c.as-slice.ensures.value),
+  product_step c.loop-f.f _ _ (pairs_in c.args.self.now) _ c.loop-f.invariant.0 c.values-all.ensures.value (ap wants_of c.as_slice.ensures.value),
   c.if-all-gt-LEAVES.false,
 )
 

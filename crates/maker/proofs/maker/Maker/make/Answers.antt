@@ -6,9 +6,9 @@ use Rattle.maker.specs.Makers.{policy_of}
 use Rattle.maker.proofs.Handing.{held, has_room, no_room, no_table, handed}
 use Rattle.maker.proofs.maker.Maker.make.Goals as goal
 
-pub returns-in-default : goal.returns-in-default
-returns-in-default c =
-    let lt = c.in-default.ensures.cases in
+pub returns-in_default : goal.returns-in_default
+returns-in_default c =
+    let lt = c.in_default.ensures.cases in
     let five = no_table c.args.self.now lt in
     record { policy = refl; made = (omega (arith, no_room c.args.self.now lt), sym five, omega (arith, five), c.fill.ensures.after (λ y e. e)); handed = tt }
 
@@ -20,10 +20,10 @@ returns-then-out-leaves c =
 pub put-requires : goal.put-requires
 put-requires c =
     let f = c.in-Some.ensures.cases in
-    let is = c.as-slice.ensures.value in
+    let is = c.as_slice.ensures.value in
     record {
       pairs = is ∙ held c.args.self.now;
-      low = c.as-slice.ensures.low;
+      low = c.as_slice.ensures.low;
       unnamed = c.args.self.now.blank_of;
       product = omega (arith, f.1, ap product is);
       room = omega (arith, f.0, c.if-out-leaves.false, ap product is);

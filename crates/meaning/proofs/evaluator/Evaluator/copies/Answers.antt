@@ -7,5 +7,5 @@ give-requires c =
     let m = right_now _ _ c.args.self.now.right in
     record { within = search rules; memo = record { rows = m.rows; entries = m.entries; sized = (m.sized.0, omega arith, m.sized.2) } }
 
-pub invariant-of-self : goal.invariant-of-self
-invariant-of-self c = (∣ c.give.ensures.memo ∣₁, tt)
+pub invariant_of-self : goal.invariant_of-self
+invariant_of-self c = record { right = ∣ c.give.ensures.memo ∣₁ }

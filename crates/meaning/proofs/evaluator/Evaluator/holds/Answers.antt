@@ -5,7 +5,7 @@ use Rattle.meaning.proofs.Remembering.{right_now}
 use Rattle.meaning.proofs.evaluator.Evaluator.holds.Goals as goal
 
 pub passes-requires : goal.passes-requires
-passes-requires c = record { within = fitting_there Test _ c.args.k (sym c.if-not-is-test.ensures.value); memo = right_now _ _ c.args.self.now.right }
+passes-requires c = record { within = fitting_there Test _ c.args.k (sym c.if-not-is_test.ensures.value); memo = right_now _ _ c.args.self.now.right }
 
-pub invariant-of-self : goal.invariant-of-self
-invariant-of-self c = (∣ c.passes.ensures.memo ∣₁, tt)
+pub invariant_of-self : goal.invariant_of-self
+invariant_of-self c = record { right = ∣ c.passes.ensures.memo ∣₁ }

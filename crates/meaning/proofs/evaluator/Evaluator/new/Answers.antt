@@ -1,4 +1,4 @@
 use Rattle.meaning.proofs.evaluator.Evaluator.new.Goals as goal
 
-pub invariant-of-result : goal.invariant-of-result
-invariant-of-result c = (∣ c.in-ok-memo.ensures.made ∣₁, tt)
+pub invariant_of-result : goal.invariant_of-result
+invariant_of-result c = record { right = ∣ c.in_ok-memo.ensures.made ∣₁ }

@@ -24,7 +24,7 @@ loop-left-preserved c =
     let bs = c.loop-left.left.now in
     let more : 0 < length bs = omega (arith, eqb-false (length bs) 0 (sym c.loop-left-test.ensures)) in
     let cut = c.cut-in-loop-left.ensures in
-    nodes_more (sofar c.loop-left.self) _ bs _ _ more cut.front cut.back c.in-default.ensures.value ∙ c.loop-left.invariant
+    nodes_more (sofar c.loop-left.self) _ bs _ _ more cut.front cut.back c.in_default.ensures.value ∙ c.loop-left.invariant
 
 pub returns : goal.returns
 returns c =

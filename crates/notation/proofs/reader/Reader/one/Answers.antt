@@ -2,10 +2,10 @@ use Rattle.std.proofs.Common.{rules}
 use Rattle.notation.specs.Operands.{one}
 use Rattle.notation.proofs.reader.Reader.one.Goals as goal
 
-pub returns-then-is-done : goal.returns-then-is-done
+pub returns-then-is_done : goal.returns-then-is_done
 unfolding one
-returns-then-is-done c = search rules
+returns-then-is_done c = search rules
 
-pub returns-else-is-done : goal.returns-else-is-done
+pub returns-else-is_done : goal.returns-else-is_done
 unfolding one
-returns-else-is-done c = search rules
+returns-else-is_done c = search rules

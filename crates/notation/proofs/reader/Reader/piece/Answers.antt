@@ -10,6 +10,6 @@ returns c =
     record {
       value =
           node_more (sofar c.args.self.now) (sofar c.add.new.self) (words_of c.args.bytes.now) (left c.next.new.self) c.in-Some.word.now c.in-Some-of.kind
-          c.in-ok-node.node (c.in-Some.ensures.word ∙ ap first all) (c.in-Some.ensures.after ∙ ap (drop 1) all) c.in-Some-of.ensures.value
-          (omega (arith, ap length c.nodes.ensures.value)) c.in-ok-node.ensures.value c.add.ensures.after;
+          c.in_ok-node.node (c.in-Some.ensures.word ∙ ap first all) (c.in-Some.ensures.after ∙ ap (drop 1) all) c.in-Some-of.ensures.value
+          (omega (arith, ap length c.nodes.ensures.value)) c.in_ok-node.ensures.value c.add.ensures.after;
     }

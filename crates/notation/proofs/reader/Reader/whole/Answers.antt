@@ -8,9 +8,9 @@ use Rattle.notation.proofs.reader.Reader.whole.Goals as goal
 
 pub returns : goal.returns
 returns c =
-    let told = c.in-ok-node.ensures.value in
-    let n = c.in-ok-node.node in
+    let told = c.in_ok-node.ensures.value in
+    let n = c.in_ok-node.node in
     record {
-      value = ended_none n (left c.node.new.words) c.if-not-is-done.ensures.value ∙ ap (λ g. and_then g ended) told;
+      value = ended_none n (left c.node.new.words) c.if-not-is_done.ensures.value ∙ ap (λ g. and_then g ended) told;
       fits = node_fits c.args.kind (sofar c.args.self.now) (left c.args.words.now) n _ told;
     }

@@ -5,7 +5,7 @@ use Rattle.notation.specs.Readers.{sofar}
 use Rattle.notation.proofs.Faulty.{written_bad}
 use Rattle.notation.proofs.reader.Reader.written.Goals as goal
 
-pub returns-in-err-k : goal.returns-in-err-k
-returns-in-err-k c =
+pub returns-in_err-k : goal.returns-in_err-k
+returns-in_err-k c =
     let p = err_from_is_err_and c.from-residual.result c.from-residual.ensures.1 in
-    record { value = rw (p.1, p.2) (written_bad c.args.want (sofar c.args.self.now) (left c.args.words.now) _ (omega arith) c.in-err-k.ensures.value) }
+    record { value = rw (p.1, p.2) (written_bad c.args.want (sofar c.args.self.now) (left c.args.words.now) _ (omega arith) c.in_err-k.ensures.value) }

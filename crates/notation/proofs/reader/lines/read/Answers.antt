@@ -37,7 +37,7 @@ pub loop-left-preserved : goal.loop-left-preserved
 loop-left-preserved c =
     let bs = c.loop-left.left.now in
     let more : 0 < length bs = omega (arith, eqb-false (length bs) 0 (sym c.loop-left-test.ensures)) in (
-      lines_more c.loop-left.line (sofar c.loop-left.reader) _ bs _ _ more c.cut.ensures.front c.cut.ensures.back c.in-default.ensures.value
+      lines_more c.loop-left.line (sofar c.loop-left.reader) _ bs _ _ more c.cut.ensures.front c.cut.ensures.back c.in_default.ensures.value
           ∙ c.loop-left.invariant.0,
       omega (arith, c.cut.ensures.shorter),
     )

@@ -2,13 +2,13 @@ use Rattle.std.proofs.Common.{rules}
 use Rattle.notation.specs.Notation.{setting}
 use Rattle.notation.proofs.reader.nodes.setting.Goals as goal
 
-pub returns-in-err-f : goal.returns-in-err-f
+pub returns-in_err-f : goal.returns-in_err-f
 unfolding setting
-returns-in-err-f c = search rules
+returns-in_err-f c = search rules
 
-pub returns-in-err-x : goal.returns-in-err-x
+pub returns-in_err-x : goal.returns-in_err-x
 unfolding setting
-returns-in-err-x c = search rules
+returns-in_err-x c = search rules
 
 pub returns : goal.returns
 unfolding setting

@@ -5,15 +5,15 @@ use Rattle.notation.specs.Words.{left}
 use Rattle.notation.proofs.Faulty.{up_none, up_bad, up_large, up_read}
 use Rattle.notation.proofs.reader.nodes.up_to.Goals as goal
 
-pub returns-in-default : goal.returns-in-default
-returns-in-default c = record { value = up_none c.args.most (number c.args.fault) (left c.args.words.now) c.in-default.ensures.word }
+pub returns-in_default : goal.returns-in_default
+returns-in_default c = record { value = up_none c.args.most (number c.args.fault) (left c.args.words.now) c.in_default.ensures.word }
 
-pub returns-in-default-decimal : goal.returns-in-default-decimal
-returns-in-default-decimal c =
+pub returns-in_default-decimal : goal.returns-in_default-decimal
+returns-in_default-decimal c =
     record {
       value =
           up_bad c.args.most (number c.args.fault) (left c.args.words.now) (left c.next.new.self) c.in-Some.word.now c.in-Some.ensures.word
-          c.in-Some.ensures.after c.in-default-decimal.ensures.value;
+          c.in-Some.ensures.after c.in_default-decimal.ensures.value;
     }
 
 pub returns-then-n-from : goal.returns-then-n-from

@@ -7,12 +7,12 @@ use Rattle.notation.specs.Words.{some, first, left, unblanked}
 use Rattle.notation.proofs.Cuts.{some_word, no_word, words_next, words_skip, no_words, unblanked_word, unblanked_blank, unblanked_none}
 use Rattle.notation.proofs.words.Words.next.Goals as goal
 
-pub returns-then-not-is-empty : goal.returns-then-not-is-empty
+pub returns-then-not-is_empty : goal.returns-then-not-is_empty
 unfolding left
-returns-then-not-is-empty c =
+returns-then-not-is_empty c =
     let bs = c.loop-word.self.bytes.now in
     let more : 0 < length bs = omega (arith, eqb-false (length bs) 0 (sym c.loop-word-test.ensures)) in
-    let word = sym c.if-not-is-empty.ensures in
+    let word = sym c.if-not-is_empty.ensures in
     let all = c.loop-word.invariant.0 ∙ words_next bs _ _ more c.cut.ensures.front c.cut.ensures.back word in
     let same = unblanked_word bs (ap some (sym c.cut.ensures.front) ∙ some_word _ word) in
     record {
@@ -26,7 +26,7 @@ unfolding left
 loop-word-preserved c =
     let bs = c.loop-word.self.bytes.now in
     let more : 0 < length bs = omega (arith, eqb-false (length bs) 0 (sym c.loop-word-test.ensures)) in
-    let none = sym c.if-not-is-empty.ensures in
+    let none = sym c.if-not-is_empty.ensures in
     let blank = unblanked_blank bs more (ap some (sym c.cut.ensures.front) ∙ no_word _ none) in (
       c.loop-word.invariant.0 ∙ words_skip bs _ _ more c.cut.ensures.front c.cut.ensures.back none,
       c.loop-word.invariant.1 ∙ blank ∙ ap unblanked (sym c.cut.ensures.back),

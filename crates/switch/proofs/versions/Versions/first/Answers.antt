@@ -3,6 +3,6 @@ use Rattle.std.proofs.Common.{refl, arith}
 use Rattle.switch.specs.Holding.{placed}
 use Rattle.switch.proofs.versions.Versions.first.Goals as goal
 
-pub invariant-of-result : goal.invariant-of-result
+pub invariant_of-result : goal.invariant_of-result
 unfolding placed
-invariant-of-result c = (omega arith, (refl, tt))
+invariant_of-result c = record { few = omega arith; places = refl }

@@ -5,10 +5,10 @@ use Rattle.switch.specs.Holding.{placed}
 use Rattle.switch.proofs.Holds.{added, placed_more}
 use Rattle.switch.proofs.versions.Versions.take_in.Goals as goal
 
-pub invariant-of-result : goal.invariant-of-result
-invariant-of-result c =
+pub invariant_of-result : goal.invariant_of-result
+invariant_of-result c =
     let room : c.args.self.count < length c.args.self.held = omega (arith, c.args.self.few) in
-    (omega (arith, c.args.self.few), (ap placed (take_more_set c.args.self.held c.args.self.count _ room) ∙ placed_more (take c.args.self.count c.args.self.held) _ c.args.self.places c.in-Some.ensures.cases.0, tt))
+    record { few = omega (arith, c.args.self.few); places = ap placed (take_more_set c.args.self.held c.args.self.count _ room) ∙ placed_more (take c.args.self.count c.args.self.held) _ c.args.self.places c.in-Some.ensures.cases.0 }
 
 pub returns : goal.returns
 returns c =

@@ -5,17 +5,17 @@ use Rattle.table.proofs.sent.Sent.with.Goals as goal
 
 pub returns-then-has : goal.returns-then-has
 returns-then-has c =
-    let there = ap (is_in c.args.p.fields) (sym c.as-slice.ensures.value) ∙ sym c.if-has.ensures.value in
+    let there = ap (is_in c.args.p.fields) (sym c.as_slice.ensures.value) ∙ sym c.if-has.ensures.value in
     record { value = with_old c.args.self c.args.p there; count = omega arith }
 
-pub invariant-of-result : goal.invariant-of-result
-invariant-of-result c =
+pub invariant_of-result : goal.invariant_of-result
+invariant_of-result c =
     let room : c.args.self.count < length c.args.self.packets = omega arith in
-    let new = ap (is_in c.args.p.fields) (sym c.as-slice.ensures.value) ∙ sym c.if-has.ensures.value in
-    (omega arith, (once_since _ _ (with_new c.args.self c.args.p room new), tt))
+    let new = ap (is_in c.args.p.fields) (sym c.as_slice.ensures.value) ∙ sym c.if-has.ensures.value in
+    record { within = omega arith; apart = once_since _ _ (with_new c.args.self c.args.p room new) }
 
 pub returns : goal.returns
 returns c =
     let room : c.args.self.count < length c.args.self.packets = omega arith in
-    let new = ap (is_in c.args.p.fields) (sym c.as-slice.ensures.value) ∙ sym c.if-has.ensures.value in
+    let new = ap (is_in c.args.p.fields) (sym c.as_slice.ensures.value) ∙ sym c.if-has.ensures.value in
     record { value = with_new c.args.self c.args.p room new; count = omega arith }

@@ -9,7 +9,7 @@ use Rattle.text.proofs.format.reads.nodes.Goals as goal
 
 pub returns-in-Err : goal.returns-in-Err
 returns-in-Err c =
-    record { value = nodes_stop c.args.count c.loop-i.-i _ _ _ c.loop-i-test.true c.in-Err.ensures.value ∙ c.loop-i.invariant.1 }
+    record { value = nodes_stop c.args.count c.loop-i._i _ _ _ c.loop-i-test.true c.in-Err.ensures.value ∙ c.loop-i.invariant.1 }
 
 pub loop-i-preserved : goal.loop-i-preserved
 loop-i-preserved c =
@@ -17,6 +17,6 @@ loop-i-preserved c =
     let few = c.loop-i.invariant.0 in
     let added = added_fitting c.in-Ok.n (drafted c.loop-i.draft) (drafted c.push.new.self) c.push.result c.push.ensures.cases (omega arith) (node_fits (drafted c.loop-i.draft) (rest c.loop-i.c) c.in-Ok.n (rest c.node.new.c) (sym read)) in (
       ap length added ∙ length_push _ _ ∙ ap (λ k. k + 1) few,
-      ap (λ ns. nodes (c.args.count - (c.loop-i.-i + 1)) ns (rest c.node.new.c)) added
-          ∙ nodes_more c.args.count c.loop-i.-i _ _ _ _ c.loop-i-test.true read ∙ c.loop-i.invariant.1,
+      ap (λ ns. nodes (c.args.count - (c.loop-i._i + 1)) ns (rest c.node.new.c)) added
+          ∙ nodes_more c.args.count c.loop-i._i _ _ _ _ c.loop-i-test.true read ∙ c.loop-i.invariant.1,
     )

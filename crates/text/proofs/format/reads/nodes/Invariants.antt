@@ -6,5 +6,5 @@ use Rattle.text.proofs.format.reads.nodes.Given as goal
 
 abbrev pub invariant-loop-i : goal.invariant-loop-i
 invariant-loop-i l =
-    (length (drafted l.draft) ≡ l.-i)
-    × (nodes (l.count - l.-i) (drafted l.draft) (rest l.c) ≡ nodes l.count [] (rest l.initial.c))
+    (length (drafted l.draft) ≡ l._i)
+    × (nodes (l.count - l._i) (drafted l.draft) (rest l.c) ≡ nodes l.count [] (rest l.initial.c))

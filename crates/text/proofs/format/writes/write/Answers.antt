@@ -10,7 +10,7 @@ returns c =
     let ns = c.nodes-nodes.result.now in
     record {
       cases =
-          c.append-nodes.ensures.items ∙ ap (λ l. l ++ flat_map node_bytes ns) c.append.ensures.items
-          ∙ ap (λ l. (l ++ (c.args.switch ∷ (length ns / 256 ∷ (length ns % 256 ∷ [])))) ++ flat_map node_bytes ns) c.in-ok-reserve.ensures.items
+          c.append_nodes.ensures.items ∙ ap (λ l. l ++ flat_map node_bytes ns) c.append.ensures.items
+          ∙ ap (λ l. (l ++ (c.args.switch ∷ (length ns / 256 ∷ (length ns % 256 ∷ [])))) ++ flat_map node_bytes ns) c.in_ok-reserve.ensures.items
           ∙ append_assoc old _ _ ∙ ap (λ l. old ++ text_bytes c.args.switch l) c.nodes-nodes.ensures.value;
     }
