@@ -1,7 +1,7 @@
 -- What a policy gives, by what its parts give.
 use Rattle.std.proofs.Common.{◌≡◌, ℕ, ◌+◌, ◌<◌, ◌≤◌, Bool, true, false, cond, ◌||◌, ltb, List, [], ◌∷◌, ◌++◌, length, get_or, take, drop, Ok, Err, Result, sym, refl, ap, ◌∙◌, subst, arith}
 use Rattle.std.proofs.lemmas.Bool.{cond-true, cond-false, ltb-true, lt-ltb, or_from, or_left, or_right}
-use Rattle.std.proofs.lemmas.List.{map_more, map_append, take-append-drop, take_all}
+use Rattle.std.proofs.lemmas.List.{map_more, map-append, take-append-drop, take_all}
 use Rattle.octets.specs.declared.fault.Fault.{Fault}
 use Rattle.octets.specs.declared.fault.Fault.TheVariants as faults
 use Rattle.packet.specs.Packet as packets
@@ -76,7 +76,7 @@ module _ (a b : Policy) (p : packets.Packet) where
 -- the packets of a list go through a policy one after the other
 module _ (a : Policy) (ps : List Packet) (i : ℕ) (d : Packet) (lt : i < length ps) where
   cut : fields_of ps ≡ fields_of (take (i + 1) ps) ++ fields_of (drop (i + 1) ps)
-  cut = ap fields_of (sym (take-append-drop (i + 1) ps)) ∙ map_append (λ x. x.fields) (take (i + 1) ps) (drop (i + 1) ps)
+  cut = ap fields_of (sym (take-append-drop (i + 1) ps)) ∙ map-append (λ x. x.fields) (take (i + 1) ps) (drop (i + 1) ps)
 
   given : each (copies a) (fields_of (take (i + 1) ps)) ≡ each (copies a) (fields_of (take i ps)) ++ copies a (get_or ps i d).fields
   given =

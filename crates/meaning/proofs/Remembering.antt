@@ -3,7 +3,7 @@ use Rattle.std.proofs.Common.{◌≡◌, ℕ, ◌+◌, ◌*◌, ◌<◌, ◌≤�
 use mathlib.Core.Logic.{∥∥₁_elim}
 use native.Mathlib.Bridge.{le_prop}
 use base.Stored.{coded_ℕ, coded_bool, coded_list}
-use denote.Struct.Props.{≡_prop, three_prop}
+use denote.Struct.Props.{≡_prop}
 use Rattle.std.specs.List.{AllWithin}
 use Rattle.std.proofs.ByRecursion.{All-get_or, All-take, all_from_every}
 use Rattle.packet.specs.Packet as packets
@@ -46,7 +46,7 @@ right_prop ns m =
     let lists : (x y : List packets.Packet) → IsProp (x ≡ y) = ≡_prop (coded_list (coded_list coded_ℕ)) in
     let rows : IsProp (RowsRight ns m) = λ x y i k d z lt a h. bools _ _ (x k d z lt a h) (y k d z lt a h) i in
     let entries : IsProp (EntriesRight ns m) = λ x y i k d z lt. (bools _ _ (x k d z lt).0 (y k d z lt).0 i, lists _ _ (x k d z lt).1 (y k d z lt).1 i) in
-    let sized : IsProp (Sized ns m) = three_prop (≡_prop coded_ℕ _ _) le_prop (≡_prop coded_ℕ _ _) in
+    let sized : IsProp (Sized ns m) = λ x y i. (≡_prop coded_ℕ _ _ x.0 y.0 i, le_prop x.1 y.1 i, ≡_prop coded_ℕ _ _ x.2 y.2 i) in
     λ x y i. record { rows = rows x.rows y.rows i; entries = entries x.entries y.entries i; sized = sized x.sized y.sized i }
 
 pub right_now : (ns : List Node) (m : Memo) → ∥ Right ns m ∥₁ → Right ns m

@@ -7,7 +7,7 @@ use Rattle.text.specs.Trees.{as_policy, tree_of}
 use Rattle.meaning.specs.Kept.{EntryRight}
 use Rattle.meaning.proofs.Answering.{answer_of_lem, put_gives, and_first, and_second, and_joined, and_full, then_first, then_each, each_few, each_fault, each_more, each_full, each_all}
 use Rattle.meaning.proofs.Remembering.{entry_recalled}
-use Rattle.meaning.proofs.Telling.{a_test, test_keeps}
+use Rattle.meaning.proofs.Telling.{a_test_lem, test_keeps}
 use Rattle.meaning.proofs.gives.+give_give_and_give_each_give_then_work_out.Goals as goal
 
 pub give-returns-in-Some : goal.give-returns-in-Some
@@ -116,7 +116,7 @@ work_out-returns-in-Then t c = record { memo = c.give_then.ensures.memo; answer 
 
 pub work_out-returns-in-Always : goal.work_out-returns-in-Always
 work_out-returns-in-Always t c =
-    let is = ⊎_elim (ap a_test) (⊎_elim (λ h. ap a_test h.2) (⊎_elim (λ h. ap a_test h.2) (⊎_elim (λ h. ap a_test h.2) (λ h. ap a_test h.1)))) c.in-Always.is in
+    let is = ⊎_elim (ap a_test_lem) (⊎_elim (λ h. ap a_test_lem h.2) (⊎_elim (λ h. ap a_test_lem h.2) (⊎_elim (λ h. ap a_test_lem h.2) (λ h. ap a_test_lem h.1)))) c.in-Always.is in
     record {
       memo = c.give_keep-in-Always.ensures.memo;
       answer = answer_of_lem _ _ _ c.give_keep-in-Always.result (test_keeps _ _ c.node_at.result c.node_at.ensures.stands is) c.give_keep-in-Always.ensures.answer;

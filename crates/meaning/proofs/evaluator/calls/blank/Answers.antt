@@ -10,9 +10,9 @@ returns c =
     record {
       made =
           record {
-            rows = all_alike (RowRight ns) 32 32 _ _ refl (c.in_ok-rows.ensures.items-if-clones-equal (λ _ e. e)) c.row_of-row.ensures.right;
+            rows = all_alike (RowRight ns) 32 32 _ _ refl (c.in_ok-rows.ensures.items_if_clones_equal (λ _ e. e)) c.row_of-row.ensures.right;
             entries =
-                all_alike (EntryRight ns) _ _ _ _ (ap (λ l. 64 * length l) c.nodes.ensures.value) (c.in_ok-entries.ensures.items-if-clones-equal (λ _ e. e))
+                all_alike (EntryRight ns) _ _ _ _ (ap (λ l. 64 * length l) c.nodes.ensures.value) (c.in_ok-entries.ensures.items_if_clones_equal (λ _ e. e))
                 (nobody-gives ns 65535 _ c.none.result (search rules) c.none.ensures.value);
             sized = (search rules, omega arith, search rules);
           };
