@@ -1,2 +1,3 @@
 pub mod Awaited
 pub mod Seen
+pub mod Same

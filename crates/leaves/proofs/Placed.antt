@@ -3,7 +3,7 @@ use Rattle.std.proofs.Common.{◌≡◌, ℕ, zero, suc, ◌+◌, ◌<◌, ◌�
 use mathlib.Core.List.Memᴰ
 use Rattle.std.specs.List.{insert as inserted, AllByRecursion as All}
 use Rattle.std.proofs.ByRecursion.{All-more}
-use Rattle.std.proofs.lemmas.List.{drop_more, drop_all, take-append-drop, take-map, drop-map, map_append, length-map, get_or-map}
+use Rattle.std.proofs.lemmas.List.{drop_more, drop_all, take-append-drop, take-map, drop-map, map-append, length-map, get_or-map}
 use Rattle.std.proofs.lemmas.Bool.{cases_Bool, both_ways, cond-true, cond-false}
 use Rattle.prescribed.specs.Order.{insert, rising}
 use Rattle.prescribed.proofs.Members.{SameElements}
@@ -67,7 +67,7 @@ module _ {A : Type 0} (less : A → A → Bool) (order : Ordered less) where
   -- the same, where the elements are seen through a function
   module _ {X : Type 0} (f : X → A) (xs : List X) (x : X) (r : ℕ) (place : Place less (f x) (map f xs) r) where
     map_inserted : map f (inserted xs r x) ≡ inserted (map f xs) r (f x)
-    map_inserted = map_append f (take r xs) (x ∷ drop r xs) ∙ sym (λ k. take-map f r xs k ++ f x ∷ drop-map f r xs k)
+    map_inserted = map-append f (take r xs) (x ∷ drop r xs) ∙ sym (λ k. take-map f r xs k ++ f x ∷ drop-map f r xs k)
 
     module _ (d : X) (lt : r < length xs) where
       within : r < length (map f xs)

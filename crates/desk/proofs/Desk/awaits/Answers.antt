@@ -8,4 +8,4 @@ pub returns-in-None : goal.returns-in-None
 returns-in-None c = record { test = decides_awaits (desk_of c.args.self) c.order.result c.args.answer false c.order.ensures.gives (λ e. cc, λ e. cc) }
 
 pub returns-in-Some : goal.returns-in-Some
-returns-in-Some c = record { test = decides_awaits (desk_of c.args.self) c.order.result c.args.answer _ c.order.ensures.gives (λ e. let h : c.in-Some.order ≡ c.args.answer = c.eq.ensures.0 e in cc, λ e. let h : c.in-Some.order ≡ c.args.answer = cc in c.eq.ensures.1 h) }
+returns-in-Some c = record { test = decides_awaits (desk_of c.args.self) c.order.result c.args.answer _ c.order.ensures.gives (λ e. let h : c.in-Some.order ≡ c.args.answer = c.eq.ensures.test.0 e in cc, λ e. let h : c.in-Some.order ≡ c.args.answer = cc in c.eq.ensures.test.1 h) }

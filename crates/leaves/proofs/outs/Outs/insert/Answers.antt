@@ -22,7 +22,7 @@ returns c =
           ap (λ l. map settings_of (take (s.count + 1) (set l i o))) c.copy_within.ensures.after
           ∙ ap (map settings_of) (shifted s.outs i s.count o (omega arith) (omega arith))
           ∙ elim c.else-i-self.branch [
-            | else-i-self-via-then-i-self+else-not-is-less w ↦ out_before s o i c.place-i.ensures.place _ w.if-i-self.true (sym w.if-not-is_less.ensures.value)
+            | else-i-self-via-then-i-self+else-not-is_less w ↦ out_before s o i c.place-i.ensures.place _ w.if-i-self.true (sym w.if-not-is_less.ensures.value)
             | else-i-self-via-else-i-self w ↦ out_last s o i c.place-i.ensures.place w.if-i-self.false
           ];
       count = omega arith;

@@ -13,8 +13,8 @@ use Rattle.leaves.proofs.pairs.Pairs.of.Goals.{in-Is+then-row-k, in-Is+else-row-
 pub loop-k-init : goal.loop-k-init
 unfolding rising
 loop-k-init c =
-    let none = c.in_ok-items.ensures.made in
-    (omega (arith, none.1), omega (arith, none.1), ap wants_of none.0 ∙ sym (ap (rising less_want) (marked_none test_of c.under-row.result)))
+    let none = c.in_ok-items.ensures in
+    (omega (arith, none.len), omega (arith, none.capacity), ap wants_of none.items ∙ sym (ap (rising less_want) (marked_none test_of c.under-row.result)))
 
 pub loop-k-preserved : goal.loop-k-preserved
 loop-k-preserved c =
@@ -37,7 +37,7 @@ loop-k-preserved c =
         omega (arith, ap vec_capacity w.items-is, inv.1),
         ap (λ v. wants_of (vec_items v)) w.items-is ∙ inv.2 ∙ sym (pair_unmarked row ns k lt w.if-row-k.false),
       )
-      | in-default w ↦ (
+      | in_default w ↦ (
         omega (arith, ap vec_len w.items-is, inv.0),
         omega (arith, ap vec_capacity w.items-is, inv.1),
         ap (λ v. wants_of (vec_items v)) w.items-is ∙ inv.2 ∙ sym (pair_other row ns k lt (λ f x e. w.in_default.not-Is f x (sym same ∙ e))),

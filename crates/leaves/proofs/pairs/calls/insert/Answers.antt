@@ -32,7 +32,7 @@ returns c =
       items =
           ap wants_of (c.insert.ensures.items ∙ cond-true _ _ _ done)
           ∙ elim c.if-i-len.branch [
-            | then-i-len+else-not-comes-before w ↦
+            | then-i-len+else-not-comes_before w ↦
                 put_before less_want want_ordered want_of xs p i place _ (omega arith)
                 (ap (λ q. less_want (want_of p) (want_of q)) (sym w.index-q.ensures) ∙ sym w.if-not-comes_before.ensures.value)
             | else-i-len w ↦ put_last less_want want_ordered want_of xs p i place (omega arith)
