@@ -20,4 +20,5 @@ pub mod Live
 pub mod Can
 pub mod Leave
 mod NoHops
+mod Course
 pub mod Cases
