@@ -1,6 +1,6 @@
 -- What is known, pair by pair.
 use Rattle.std.proofs.Common.{◌≡◌, ℕ, zero, suc, ◌+◌, ◌<◌, ◌≤◌, Bool, true, false, ◌||◌, eqb, List, [], ◌∷◌, ◌++◌, map, length, get_or, take, drop, set, sym, refl, ap, ◌∙◌, arith}
-use Rattle.std.proofs.lemmas.List.{at_drop_more, at_drop_all, length-map, length-take-le, get_or-map, get_or-take, get_or_past, take_more_set, map_append}
+use Rattle.std.proofs.lemmas.List.{at_drop_more, at_drop_all, length-map, length-take-le, get_or-map, get_or-take, get_or_past, take_more_set, map-append}
 use Rattle.std.proofs.lemmas.Bool.{eq-eqb, ne_eqb, or_left}
 use Rattle.packet.specs.Table.{Want}
 use Rattle.prescribed.specs.Table.{is_known}
@@ -19,7 +19,7 @@ module _ (ps : List Pair) (n : ℕ) (le : n ≤ length ps) where
   want_past j e ge = sym (get_or_past (wants_of (take n ps)) j e (omega (arith, length_wants)))
 
 pub wants_push : (ps : List Pair) (n : ℕ) (p : Pair) → n < length ps → wants_of (take (n + 1) (set ps n p)) ≡ wants_of (take n ps) ++ want_of p ∷ []
-wants_push ps n p lt = ap wants_of (take_more_set ps n p lt) ∙ map_append want_of (take n ps) (p ∷ [])
+wants_push ps n p lt = ap wants_of (take_more_set ps n p lt) ∙ map-append want_of (take n ps) (p ∷ [])
 
 -- looking for a field
 module _ (f : ℕ) (ws : List Want) (i : ℕ) (d : Want) where

@@ -98,14 +98,14 @@ returns-in-Err-make t c =
           (same_made _ _ c.in-Ok.ensures.text (wants_of (drop (c.args.i + 1) c.args.pairs.now)) (known_of c.args.known) c.make-in_default.new.out (Err c.in-Err-make.fault) c.in-Err-make.ensures.made);
     }
 
-pub offset-bounds-out-y : goal.offset-bounds-out-y
-offset-bounds-out-y t c = omega (arith, fits_behind (plan c.args.evaluator.now) c.args.pairs.now c.args.i c.args.known (length c.args.out.now) c.requires.task c.if-i-pairs.false (sym c.if-knows.ensures.value) c.with.result c.with.ensures.known c.make-2.new.out c.in-Rules.y c.in-Rules.more (subst (λ m. MadeOf (plan c.args.evaluator.now) (wants_of (drop (c.args.i + 1) c.args.pairs.now)) (known_of c.with.result) c.make-2.new.out (Ok m)) c.in-Rules.is c.in-Ok.ensures.made))
+pub offset_bounds-out-y : goal.offset_bounds-out-y
+offset_bounds-out-y t c = omega (arith, fits_behind (plan c.args.evaluator.now) c.args.pairs.now c.args.i c.args.known (length c.args.out.now) c.requires.task c.if-i-pairs.false (sym c.if-knows.ensures.value) c.with.result c.with.ensures.known c.make-2.new.out c.in-Rules.y c.in-Rules.more (subst (λ m. MadeOf (plan c.args.evaluator.now) (wants_of (drop (c.args.i + 1) c.args.pairs.now)) (known_of c.with.result) c.make-2.new.out (Ok m)) c.in-Rules.is c.in-Ok.ensures.made))
 
-pub slice-bounds-make-count : goal.slice-bounds-make-count
-slice-bounds-make-count t c = omega (arith, fits_behind (plan c.args.evaluator.now) c.args.pairs.now c.args.i c.args.known (length c.args.out.now) c.requires.task c.if-i-pairs.false (sym c.if-knows.ensures.value) c.with.result c.with.ensures.known c.make-2.new.out c.in-Rules.y c.in-Rules.more (subst (λ m. MadeOf (plan c.args.evaluator.now) (wants_of (drop (c.args.i + 1) c.args.pairs.now)) (known_of c.with.result) c.make-2.new.out (Ok m)) c.in-Rules.is c.in-Ok.ensures.made))
+pub slice_bounds-make-count : goal.slice_bounds-make-count
+slice_bounds-make-count t c = omega (arith, fits_behind (plan c.args.evaluator.now) c.args.pairs.now c.args.i c.args.known (length c.args.out.now) c.requires.task c.if-i-pairs.false (sym c.if-knows.ensures.value) c.with.result c.with.ensures.known c.make-2.new.out c.in-Rules.y c.in-Rules.more (subst (λ m. MadeOf (plan c.args.evaluator.now) (wants_of (drop (c.args.i + 1) c.args.pairs.now)) (known_of c.with.result) c.make-2.new.out (Ok m)) c.in-Rules.is c.in-Ok.ensures.made))
 
-pub slice-bounds-make-start : goal.slice-bounds-make-start
-slice-bounds-make-start t c = omega (arith, fits_behind (plan c.args.evaluator.now) c.args.pairs.now c.args.i c.args.known (length c.args.out.now) c.requires.task c.if-i-pairs.false (sym c.if-knows.ensures.value) c.with.result c.with.ensures.known c.make-2.new.out c.in-Rules.y c.in-Rules.more (subst (λ m. MadeOf (plan c.args.evaluator.now) (wants_of (drop (c.args.i + 1) c.args.pairs.now)) (known_of c.with.result) c.make-2.new.out (Ok m)) c.in-Rules.is c.in-Ok.ensures.made))
+pub slice_bounds-make-start : goal.slice_bounds-make-start
+slice_bounds-make-start t c = omega (arith, fits_behind (plan c.args.evaluator.now) c.args.pairs.now c.args.i c.args.known (length c.args.out.now) c.requires.task c.if-i-pairs.false (sym c.if-knows.ensures.value) c.with.result c.with.ensures.known c.make-2.new.out c.in-Rules.y c.in-Rules.more (subst (λ m. MadeOf (plan c.args.evaluator.now) (wants_of (drop (c.args.i + 1) c.args.pairs.now)) (known_of c.with.result) c.make-2.new.out (Ok m)) c.in-Rules.is c.in-Ok.ensures.made))
 
 pub make-requires-3 : goal.make-requires-3
 make-requires-3 t c = (

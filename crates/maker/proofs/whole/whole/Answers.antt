@@ -36,8 +36,8 @@ returns-in_default c =
           (subst (λ m. MadeOf (plan c.args.evaluator.now) (wants_of (drop 0 c.args.pairs.now)) (known_of c.none.result) c.make.new.out (Ok m)) c.in_default.is c.in-Ok.ensures.made);
     }
 
-pub slice-bounds-end-end : goal.slice-bounds-end-end
-slice-bounds-end-end c =
+pub slice_bounds-end-end : goal.slice_bounds-end-end
+slice_bounds-end-end c =
     let le = whole_within (plan c.args.evaluator.now) c.args.pairs.now c.requires.pairs c.none.result c.none.ensures.known c.requires.product c.make.new.out c.in-Rules.words c.in-Rules.field-1
     (subst (λ m. MadeOf (plan c.args.evaluator.now) (wants_of (drop 0 c.args.pairs.now)) (known_of c.none.result) c.make.new.out (Ok m)) c.in-Rules.is c.in-Ok.ensures.made) c.requires.low in
     omega (arith, le, c.requires.room)

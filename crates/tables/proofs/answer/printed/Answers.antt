@@ -4,7 +4,7 @@ use Rattle.table.specs.Words.{encode}
 use Rattle.maker.specs.Makers.{policy_of}
 use Rattle.tables.proofs.answer.printed.Goals as goal
 
-pub slice-bounds-new-end-2 : goal.slice-bounds-new-end-2
-slice-bounds-new-end-2 c =
+pub slice_bounds-new-end-2 : goal.slice_bounds-new-end-2
+slice_bounds-new-end-2 c =
     let p = c.in-Ok.ensures.made in
     sym (length-take-le c.in-Ok.size c.make.new.out (omega (arith, p.2, ap length p.3, length-append (encode (table_of (policy_of c.args.maker.now))) (replicate (length c.args.words.now - c.in-Ok.size) 0))))
