@@ -1,5 +1,6 @@
-// What the programs share: their arguments, and the lines in which they refuse something.
+// What the programs share: their arguments, how a text is read, and the lines in which they refuse something.
 pub mod arguments;
+pub mod input;
 pub mod refusal;
 
 pub use arguments::Asked;

@@ -18,10 +18,10 @@ ended_none x [] h = refl
 ended_none x (w ∷ ws) h = absurd (true≢false h)
 
 -- the parts of bytes that were cut
-parts_at : (m : Mark) (bs p rest : List ℕ) → 0 < length bs → p ≡ before m bs → rest ≡ behind m bs → p ∷ parts m rest ≡ parts m bs
+pub parts_at : (m : Mark) (bs p rest : List ℕ) → 0 < length bs → p ≡ before m bs → rest ≡ behind m bs → p ∷ parts m rest ≡ parts m bs
 parts_at m bs p rest h e f = ap (λ q. q ∷ parts m rest) e ∙ ap (λ r. before m bs ∷ parts m r) f ∙ sym (parts_cut m bs h)
 
-no_parts : (m : Mark) (bs : List ℕ) → length bs ≡ 0 → [] ≡ parts m bs
+pub no_parts : (m : Mark) (bs : List ℕ) → length bs ≡ 0 → [] ≡ parts m bs
 unfolding parts
 no_parts m [] h = refl
 no_parts m (b ∷ bs) h = absurd (omega arith)

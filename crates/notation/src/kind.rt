@@ -15,7 +15,8 @@ pub enum Kind {
     Then,
 }
 
-fn same(word: &[u8], name: &[u8]) -> bool
+// Whether a word is this one.
+pub fn same_word(word: &[u8], name: &[u8]) -> bool
     ensures value { result ≡ same_word word.now name.now }
 {
     word == name
@@ -25,23 +26,23 @@ impl Kind {
     pub fn of(word: &[u8]) -> Option<Kind>
         ensures value { result ≡ kind_of word.now }
     {
-        if same(word, b"always") {
+        if same_word(word, b"always") {
             Some(Kind::Always)
-        } else if same(word, b"is") {
+        } else if same_word(word, b"is") {
             Some(Kind::Is)
-        } else if same(word, b"both") {
+        } else if same_word(word, b"both") {
             Some(Kind::Both)
-        } else if same(word, b"either") {
+        } else if same_word(word, b"either") {
             Some(Kind::Either)
-        } else if same(word, b"not") {
+        } else if same_word(word, b"not") {
             Some(Kind::Not)
-        } else if same(word, b"keep") {
+        } else if same_word(word, b"keep") {
             Some(Kind::Keep)
-        } else if same(word, b"put") {
+        } else if same_word(word, b"put") {
             Some(Kind::Put)
-        } else if same(word, b"and") {
+        } else if same_word(word, b"and") {
             Some(Kind::And)
-        } else if same(word, b"then") {
+        } else if same_word(word, b"then") {
             Some(Kind::Then)
         } else {
             None

@@ -7,6 +7,7 @@ mod reader;
 mod used;
 pub mod words;
 
+pub use kind::same_word;
 pub use laws::notation_stands;
 pub use marks::{Mark, cut};
 pub use number::decimal;

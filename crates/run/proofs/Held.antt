@@ -5,7 +5,7 @@ use Rattle.packet.specs.Table.{Table}
 use Rattle.run.specs.Net.{Plan}
 use Rattle.run.specs.Switch.{Held, knows, table_of, gone, without}
 use Rattle.run.specs.Promise.{Holds}
-use Rattle.run.proofs.Lists.{by_test, or_cases, or_l, or_r, neqb}
+use Rattle.run.proofs.Lists.{by_test, or_cases, or_l, or_r, not_so, neqb}
 
 abbrev pub held : ℕ → Table → Held
 held v t = record { version = v; table = t }
@@ -24,7 +24,7 @@ unfolding knows
 knows_new v t [] = or_l (eqb v v) false (eqb_refl v)
 knows_new v t (y ∷ ys) = or_r (eqb v y.version) (knows v (ys ++ (held v t ∷ []))) (knows_new v t ys)
 
-knows_snoc : (u : ℕ) (x : Held) (xs : List Held) → T (knows u (xs ++ (x ∷ []))) → T (knows u xs) ⊎ (u ≡ x.version)
+pub knows_snoc : (u : ℕ) (x : Held) (xs : List Held) → T (knows u (xs ++ (x ∷ []))) → T (knows u xs) ⊎ (u ≡ x.version)
 unfolding knows
 knows_snoc u x [] t = ⊎_elim (λ z. inr (eqb→eq u x.version z)) (λ z. inl z) (or_cases (eqb u x.version) false t)
 knows_snoc u x (y ∷ ys) t = ⊎_elim (λ z. inl (or_l (eqb u y.version) (knows u ys) z))
@@ -50,7 +50,7 @@ table_new v t (y ∷ ys) n = go (eqb v y.version) n (table_new v t ys)
     go false n h = h n
 
 -- one less
-knows_without : (v u : ℕ) (xs : List Held) → T (knows u (without v xs)) → T (knows u xs) × (u ≡ v → ⊥)
+pub knows_without : (v u : ℕ) (xs : List Held) → T (knows u (without v xs)) → T (knows u xs) × (u ≡ v → ⊥)
 unfolding knows
 knows_without v u [] t = absurd t
 knows_without v u (y ∷ ys) t = go (knows_without v u ys)
@@ -114,11 +114,7 @@ knows_less v u xs t = go (eqb u v) (eqb→eq u v) (neqb u v)
 
 -- the removed one is not there
 pub knows_removed : (v : ℕ) (xs : List Held) → T (not (knows v (without v xs)))
-knows_removed v xs = go (knows v (without v xs)) (λ t. (knows_without v v xs t).1 refl)
-  where
-    go : (b : Bool) → (T b → ⊥) → T (not b)
-    go true n = n tt
-    go false n = tt
+knows_removed v xs = not_so (knows v (without v xs)) (λ t. (knows_without v v xs t).1 refl)
 
 -- a switch with one table
 pub holds_one : (a : ℕ → Plan) (i v : ℕ) (t : Table) → t ≡ (a v).table i → Holds a i (λ u. u ≡ v) (held v t ∷ [])

@@ -10,14 +10,7 @@ use Rattle.run.specs.Switch.{Mark, mark_of, Frame, Held, Switch, knows}
 use Rattle.run.specs.Desk.{Stage, Idle, Installing, Stamping, Flushing, Removing, Desk, orders_in}
 use Rattle.run.specs.Run.{Entry, Carried, Item, frame, mark, Exit, State}
 use Rattle.run.specs.Promise.{Holds}
-
--- how far a change has come
-abbrev pub rank : ℕ → Stage → ℕ
-rank rounds Idle = 0
-rank rounds Installing = 1
-rank rounds Stamping = 2
-rank rounds (Flushing r) = r + 2
-rank rounds Removing = rounds + 3
+use Rattle.run.specs.Past.{rank}
 
 -- where the desk stands: its two versions, and the rank of its stage
 pub record Time : Type 0 where

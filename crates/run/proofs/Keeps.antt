@@ -8,7 +8,8 @@ use Rattle.run.specs.Order.{Order, Answer, answer_to}
 use Rattle.run.specs.Switch.{Switch}
 use Rattle.run.specs.Desk.{Stage, Idle, Installing, Stamping, Flushing, Removing, Desk, orders_in, heard}
 use Rattle.run.specs.Run.{Entry, Item, frame, mark, Exit, State, with_switch, with_queue, with_answer, with_desk, with_entry, with_exit, put_on, fall, wanted}
-use Rattle.run.proofs.Inv.{rank, time_of, Spans, Fit, Fine, Line, Lines, Did, Grows, Logged, Wired, Sound, StageOk, Inv}
+use Rattle.run.specs.Past.{rank}
+use Rattle.run.proofs.Inv.{time_of, Spans, Fit, Fine, Line, Lines, Did, Grows, Logged, Wired, Sound, StageOk, Inv}
 use Rattle.run.proofs.Lists.{at_case, at2_case, snoc_cases, snoc_old, mem_more}
 use Rattle.run.proofs.Cables.{Last, line_snoc, line_drop}
 use Rattle.run.proofs.Switches.{grows_refl, did_grows}

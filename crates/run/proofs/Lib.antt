@@ -1,6 +1,7 @@
 pub mod Lists
 pub mod Packets
 mod Inv
+mod Asked
 pub mod Held
 pub mod Switches
 mod Cables
@@ -22,3 +23,10 @@ pub mod Leave
 mod NoHops
 mod Course
 pub mod Cases
+mod Answered
+mod Room
+pub mod Past
+mod Told
+pub mod Rehearsal
+pub mod View
+pub mod Late

@@ -42,6 +42,10 @@ not_both true true n t = n
 not_both true false n t = absurd t
 not_both false b n t = tt
 
+pub not_so : (b : Bool) → (T b → ⊥) → T (not b)
+not_so true n = n tt
+not_so false n = tt
+
 pub neqb : (a b : ℕ) → T (not (eqb a b)) → a ≡ b → ⊥
 neqb a b t p = T_not (eqb a b) t (subst (λ (k : ℕ). T (eqb a k)) p (eqb_refl a))
 

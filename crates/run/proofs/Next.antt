@@ -7,7 +7,8 @@ use Rattle.run.specs.Order.{Order, Install, Stamp, Round, Remove, answer_to}
 use Rattle.run.specs.Switch.{Mark, mark_of, Switch}
 use Rattle.run.specs.Desk.{Stage, Idle, Installing, Stamping, Flushing, Removing, Desk, Busy, orders_in, AllSeen, moved, after_round, on_from, changed}
 use Rattle.run.specs.Run.{Carried, Item, frame, mark, State, with_plan, wanted, commanded}
-use Rattle.run.proofs.Inv.{rank, Time, time_at, StageOk, Has, old, both, new, Fit, Timely, Rides, Ripe, Fine, Asked, Kept, Since, Did, InvAt, Inv}
+use Rattle.run.specs.Past.{rank}
+use Rattle.run.proofs.Inv.{Time, time_at, StageOk, Has, old, both, new, Fit, Timely, Rides, Ripe, Fine, Asked, Kept, Since, Did, InvAt, Inv}
 use Rattle.run.proofs.Lists.{by_test, never, at_self}
 use Rattle.run.proofs.Cables.{line_later}
 

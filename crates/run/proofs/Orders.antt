@@ -13,7 +13,7 @@ use Rattle.run.proofs.Keeps.{spans, keeps_switch, keeps_drop}
 use Rattle.run.proofs.Moves.{Ok, moves_keep}
 
 -- a mark on a port with a cable
-marks_mem : (n : ℕ) (wire : ℕ → Wire) (k : Mark) (m : Message) → Memᴰ m (marks_on n wire k) → (p : ℕ) × (j : ℕ) × (q : ℕ) × (wire p ≡ To j q) × (m ≡ MarkOn p k)
+pub marks_mem : (n : ℕ) (wire : ℕ → Wire) (k : Mark) (m : Message) → Memᴰ m (marks_on n wire k) → (p : ℕ) × (j : ℕ) × (q : ℕ) × (wire p ≡ To j q) × (m ≡ MarkOn p k)
 unfolding marks_on
 marks_mem zero wire k m z = elim z [ ]
 marks_mem (suc n) wire k m z = ⊎_elim (marks_mem n wire k m) (λ y. go (wire n) refl y) (Memᴰ.append_cases (marks_on n wire k) z)

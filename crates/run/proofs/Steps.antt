@@ -1,5 +1,7 @@
 -- What a step does to the switches, to the desk with its plans and orders, and to the entries.
-use Rattle.std.proofs.Common.{◌≡◌, ℕ, ◌+◌, ◌<◌, ◌≤◌, Bool, true, false, cond, T, eqb, ltb, ◌⊎◌, List, [], ◌∷◌, ◌++◌, Some, None, Option, sym, refl, ap, ◌∙◌, subst, inl, inr, le_trans, le_refl, arith, eqb→eq, ltb→lt}
+use Rattle.std.proofs.Common.{◌≡◌, ℕ, ◌+◌, ◌<◌, ◌≤◌, Bool, true, false, cond, T, eqb, ltb, ◌⊎◌, List, [], ◌∷◌, ◌++◌, Some, None, Option, sym, refl, ap, ◌∙◌, subst, inl, inr, ⊎_elim, le_trans, le_refl, arith, eqb→eq, ltb→lt}
+use mathlib.Core.List.Memᴰ
+use mathlib.Core.List.{Memᴰ}
 use Rattle.packet.specs.Packet.{Packet, field}
 use Rattle.run.specs.Net.{Net, Plan, GoodPlan, Outside}
 use Rattle.run.specs.Switch.{Switch, Turn, take_packet, take_frame, take_mark, take_order}
@@ -105,7 +107,7 @@ pub record New (w : Net) (s t : State) : Type 0 where
   pub is : t ≡ entered w i p s
   pub entries : t.entries ≡ s.entries ++ (entry s i p ∷ [])
 
-turned_entries : (i : ℕ) (of : Option Entry) (t : Turn) (s : State) → (turned i of t s).entries ≡ s.entries
+pub turned_entries : (i : ℕ) (of : Option Entry) (t : Turn) (s : State) → (turned i of t s).entries ≡ s.entries
 turned_entries i of t s = (moves_add i of t.sends (with_switch i t.after s)).entries
 
 pub entries_of : (w : Net) {s t : State} → Step w s t → (t.entries ≡ s.entries) ⊎ New w s t
@@ -118,3 +120,8 @@ entries_of w (order s i l o m) = inl (turned_entries i None (take_order w.ports 
 entries_of w (hear s i l o m n) = inl refl
 entries_of w (next s b all) = inl refl
 entries_of w (change s v a g idle room) = inl refl
+
+-- what came in stays
+pub entries_stay : (w : Net) {s t : State} → Steps w s t → (e : Entry) → Memᴰ e s.entries → Memᴰ e t.entries
+entries_stay w stay e m = m
+entries_stay w (more r y) e m = ⊎_elim (λ x. subst (Memᴰ e) (sym x) (entries_stay w r e m)) (λ n. subst (Memᴰ e) (sym n.entries) (Memᴰ.append_left _ (entries_stay w r e m))) (entries_of w y)

@@ -8,3 +8,7 @@ pub mod Promise
 pub mod OnTheWay
 pub mod Live
 pub mod Cases
+pub mod Past
+pub mod Calls
+pub mod Rehearsal
+pub mod View

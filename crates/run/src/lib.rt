@@ -3,6 +3,8 @@ ghost use Rattle.run.specs.Promise.{Promise};
 ghost use Rattle.run.specs.OnTheWay.{OnTheWay};
 ghost use Rattle.run.specs.Live.{Ends, CanEnd, AllLeave};
 ghost use Rattle.run.specs.Cases.{CasesHold};
+ghost use Rattle.run.specs.Past.{PastIsTold};
+ghost use Rattle.run.specs.Rehearsal.{Rehearsal};
 
 // Every packet goes by one plan, the one in force where and when it came in, and no copy of it is left out.
 pub fn promise_stands() -> u8
@@ -35,6 +37,20 @@ pub fn change_can_end() -> u8
 // Without losses all that its plan says of a packet leaves at some time, through any number of changes.
 pub fn all_leave() -> u8
     ensures leave { AllLeave }
+{
+    0
+}
+
+// What has been ordered and answered follows from the desk's versions and stage, and a switch has a place for each table that it is to take in.
+pub fn past_is_told() -> u8
+    ensures past { PastIsTold }
+{
+    0
+}
+
+// The promise holds over any list of calls to a net, in words of the calls and of what is told of them.
+pub fn rehearsal_stands() -> u8
+    ensures rehearsal { Rehearsal }
 {
     0
 }

@@ -1,4 +1,4 @@
-mod Decides
+pub mod Decides
 mod Gathering
 pub mod Encoding
 pub mod Steps

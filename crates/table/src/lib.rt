@@ -1,7 +1,7 @@
 // Tables: rules in words, of which the first whose wants a packet meets decides.
 mod lines;
 mod matching;
-mod places;
+pub mod places;
 pub mod sent;
 pub mod tables;
 pub mod words;

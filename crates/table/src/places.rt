@@ -14,7 +14,7 @@ const MOST_OUTS: u16 = 16;
 
 const MOST_RULES: u16 = 2048;
 
-pub(crate) fn want_at(words: &[u16], at: usize) -> Want
+pub fn want_at(words: &[u16], at: usize) -> Want
     requires there { thing_in words.now want_size at ≡ true }
     ensures value { want_of result ≡ want_at words.now at }
 {
@@ -24,7 +24,7 @@ pub(crate) fn want_at(words: &[u16], at: usize) -> Want
     }
 }
 
-pub(crate) fn setting_at(words: &[u16], at: usize) -> Setting
+pub fn setting_at(words: &[u16], at: usize) -> Setting
     requires there { thing_in words.now setting_size at ≡ true }
     ensures value { setting_of result ≡ setting_at words.now at }
 {
@@ -35,7 +35,7 @@ pub(crate) fn setting_at(words: &[u16], at: usize) -> Setting
 }
 
 // Where the out at `at` ends.
-pub(crate) fn out_end(words: &[u16], at: usize) -> usize
+pub fn out_end(words: &[u16], at: usize) -> usize
     requires there { few_in words.now setting_size at ≡ true }
     ensures value { result ≡ out_end words.now at }
     ensures within { result ≤ length words.now }
@@ -111,7 +111,7 @@ fn rule_in(words: &[u16], at: usize) -> bool
 }
 
 // Where the wants whose number is at `at` end.
-pub(crate) fn wants_end(words: &[u16], at: usize) -> usize
+pub fn wants_end(words: &[u16], at: usize) -> usize
     requires there { few_in words.now want_size at ≡ true }
     ensures value { result ≡ wants_end words.now at }
     ensures within { result ≤ length words.now }
@@ -134,7 +134,7 @@ pub(crate) fn outs_end(words: &[u16], at: usize) -> usize
 }
 
 // Where the rule at `at` ends.
-pub(crate) fn rule_end(words: &[u16], at: usize) -> usize
+pub fn rule_end(words: &[u16], at: usize) -> usize
     requires there { rule_in words.now at ≡ true }
     ensures value { result ≡ rule_end words.now at }
     ensures within { result ≤ length words.now }

@@ -1,4 +1,4 @@
 pub mod Sound
 pub mod Reading
 pub mod Standing
-mod Trips
+pub mod Trips

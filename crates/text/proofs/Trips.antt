@@ -13,7 +13,7 @@ use Rattle.text.specs.declared.node.Node.TheVariants.{Always, Is, Both, Either, 
 use Rattle.text.specs.declared.node.Sort.{Sort}
 use Rattle.text.specs.declared.node.Sort.TheVariants.{Test, Policy}
 use Rattle.text.specs.Nodes.{fitting, fits, sound}
-use Rattle.text.specs.Format.{field, operand, valued, unary, binary, of_kind, node, nodes, Assignment, text, alone, node_bytes, text_bytes, valued_bytes, unary_bytes, binary_bytes}
+use Rattle.text.specs.Format.{field, operand, valued, unary, binary, of_kind, node, nodes, listed, Assignment, text, alone, node_bytes, listed_bytes, text_bytes, valued_bytes, unary_bytes, binary_bytes}
 use Rattle.text.specs.Laws.{Good, ReadsBack, WritesBack, NoFront}
 use Rattle.text.proofs.Reading.{nodes_grow}
 
@@ -52,6 +52,9 @@ nodes_back ns (m ∷ ms) rest h =
     ap (λ l. and_then (node ns l) (λ n r. nodes (length ms) (ns ++ n ∷ []) r)) (append_assoc (node_bytes m) (flat_map node_bytes ms) rest)
     ∙ ap (λ g. and_then g (λ n r. nodes (length ms) (ns ++ n ∷ []) r)) (node_back ns m (flat_map node_bytes ms ++ rest) p.0)
     ∙ nodes_back (ns ++ m ∷ []) ms rest p.1 ∙ ap (λ l. Read l rest) (append_assoc ns (m ∷ []) ms)
+
+pub listed_back : (ns : List Node) (rest : List ℕ) → 1 ≤ length ns → length ns ≤ 512 → sound [] ns ≡ true → listed (listed_bytes ns ++ rest) ≡ Read ns rest
+listed_back ns rest some few so = rw (word_joined (length ns), le-leb 1 (length ns) some, le-leb (length ns) 512 few) (nodes_back [] ns rest so)
 
 pub reads_back : ReadsBack
 reads_back n a rest g =

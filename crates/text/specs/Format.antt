@@ -46,6 +46,10 @@ abbrev pub nodes : ℕ → List Node → List ℕ → Got (List Node)
 nodes zero ns bs = Read ns bs
 nodes (suc k) ns bs = and_then (node ns bs) (λ n r. nodes k (ns ++ n ∷ []) r)
 
+-- the number of the nodes of a text, 1 to 512, and the nodes
+abbrev pub listed : List ℕ → Got (List Node)
+listed bs = and_then (word bs) (λ k r. and_then (check (nat_le 1 k && nat_le k 512) 2 k r) (λ m q. nodes m [] q))
+
 -- the nodes of a text, with the switch that it is for
 pub record Assignment : Type 0 where
   pub switch : ℕ
@@ -84,6 +88,10 @@ node_bytes (Keep a) = unary_bytes 6 a
 node_bytes (Put f x) = valued_bytes 7 f x
 node_bytes (And a b) = binary_bytes 8 a b
 node_bytes (Then a b) = binary_bytes 9 a b
+
+-- the number of the nodes, and the nodes
+abbrev pub listed_bytes : List Node → List ℕ
+listed_bytes ns = word_bytes (length ns) ++ flat_map node_bytes ns
 
 abbrev pub text_bytes : ℕ → List Node → List ℕ
 text_bytes i ns = i ∷ (word_bytes (length ns) ++ flat_map node_bytes ns)

@@ -2,5 +2,5 @@
 mod reads;
 mod writes;
 
-pub use reads::{read, read_alone};
+pub use reads::{read, read_alone, read_nodes};
 pub use writes::{format_stands, write};

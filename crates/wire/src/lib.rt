@@ -8,7 +8,7 @@ pub mod mark;
 mod numbers;
 pub mod order;
 
-pub use board::Wire;
+pub use board::{Board, Wire};
 pub use cables::Cables;
 pub use frame::Frame;
 pub use mark::Mark;

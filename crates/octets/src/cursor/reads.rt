@@ -19,6 +19,17 @@ impl<'a> Cursor<'a> {
         self.at >= self.bytes.len()
     }
 
+    // The bytes that are left to read.
+    pub fn left(&self) -> &'a [u8]
+        ensures { result.now ≡ rest self.now }
+    {
+        if self.at < self.bytes.len() {
+            &self.bytes[self.at..]
+        } else {
+            &[]
+        }
+    }
+
     pub fn byte(&mut self) -> Result<u8, Fault>
         ensures { told result (rest self.new) ≡ parse.byte (rest self.old) }
     {

@@ -1,5 +1,5 @@
 // How the copies are gathered and read.
-ghost use Rattle.std.specs.Prelude.{◌≡◌, ◌+◌, ◌<◌, ◌≤◌, [], ◌∷◌, ◌++◌};
+ghost use Rattle.std.specs.Prelude.{◌≡◌, ◌+◌, ◌<◌, ◌≤◌, [], ◌∷◌, ◌++◌, length};
 ghost use Rattle.packet.specs.Packet.{is_in, once};
 ghost use Rattle.table.specs.Listed.{fields_of};
 ghost use Rattle.table.specs.Views.{copies_of};
@@ -21,6 +21,7 @@ fn has(packets: &[Packet], p: Packet) -> bool
 impl Sent {
     pub fn as_slice(&self) -> &[Packet]
         ensures value { fields_of result.now ≡ copies_of self.now }
+        ensures few { length result.now ≤ 16 }
     {
         &self.packets[..self.count]
     }

@@ -38,6 +38,14 @@ impl<'a> Table<'a> {
         }
     }
 
+    // The table that stands in words of which this is known, so that none of them is looked at.
+    pub fn of(words: &'a [u16]) -> Table<'a>
+        requires sound { Sound words.now }
+        ensures value { result.words.now ≡ words.now }
+    {
+        Table { words }
+    }
+
     pub fn words(self) -> &'a [u16]
         ensures value { result.now ≡ self.entry.words.now }
         ensures sound { Sound result.now }

@@ -2,10 +2,10 @@
 ghost use Rattle.std.specs.Prelude.{◌≡◌, ◌≤◌, []};
 ghost use Rattle.octets.specs.Readers.{told, told_as, rest};
 ghost use Rattle.text.specs.Format as spec;
-ghost use Rattle.text.specs.Texts.{drafted, assignment_of};
+ghost use Rattle.text.specs.Texts.{drafted, nodes_of, assignment_of};
 
 use crate::node::{Node, Sort};
-use crate::texts::{Assigned, Draft};
+use crate::texts::{Assigned, Draft, Text};
 use octets::{Cursor, Fault};
 
 fn field(c: &mut Cursor) -> Result<u8, Fault>
@@ -81,16 +81,10 @@ fn nodes(c: &mut Cursor, draft: Draft, count: u16) -> Result<Draft, Fault>
     Ok(draft)
 }
 
-// A text for one of so many switches. It is written over what the draft holds.
-pub fn read(c: &mut Cursor, draft: Draft, switches: u8) -> Result<Assigned, Fault>
-    ensures value { told_as assignment_of result (rest c.new) ≡ spec.text switches (rest c.old) }
+// The nodes of a text, with their number in front. They are written over what the draft holds.
+pub fn read_nodes(c: &mut Cursor, draft: Draft) -> Result<Text, Fault>
+    ensures value { told_as nodes_of result (rest c.new) ≡ spec.listed (rest c.old) }
 {
-    let Ok(switch) = c.byte() else {
-        return Err(Fault::Form);
-    };
-    if switch >= switches {
-        return Err(Fault::Range);
-    }
     let Ok(count) = c.word() else {
         return Err(Fault::Form);
     };
@@ -101,6 +95,20 @@ pub fn read(c: &mut Cursor, draft: Draft, switches: u8) -> Result<Assigned, Faul
     let Some(text) = draft.finish() else {
         return Err(Fault::Range);
     };
+    Ok(text)
+}
+
+// A text for one of so many switches. It is written over what the draft holds.
+pub fn read(c: &mut Cursor, draft: Draft, switches: u8) -> Result<Assigned, Fault>
+    ensures value { told_as assignment_of result (rest c.new) ≡ spec.text switches (rest c.old) }
+{
+    let Ok(switch) = c.byte() else {
+        return Err(Fault::Form);
+    };
+    if switch >= switches {
+        return Err(Fault::Range);
+    }
+    let text = read_nodes(c, draft)?;
     Ok(Assigned { switch, text })
 }
 

@@ -19,6 +19,14 @@ impl Text {
     {
         self.nodes.as_slice()
     }
+
+    // Another text of the same nodes.
+    pub fn copy(&self, heap: Global) -> Result<Text, AllocError>
+        ensures made { IfOk result (λ t. nodes_of t ≡ nodes_of self.now) }
+    {
+        let nodes = Vec::from_slice(heap, self.nodes.as_slice())?;
+        Ok(Text { nodes })
+    }
 }
 
 impl Draft {
