@@ -1,4 +1,6 @@
 // The desk: it leads the switches from one version to the next, stage by stage. Its state is small and goes by value.
+#![tactic(auto)]
+
 mod answers;
 pub mod orders;
 mod steps;

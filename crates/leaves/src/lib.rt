@@ -1,5 +1,7 @@
 // What the leaves of a text's table are made of: the pairs that are asked for, a packet that the text names nowhere, and
 // the settings of a packet's copies.
+#![tactic(auto)]
+
 mod marks;
 pub mod outs;
 pub mod pairs;

@@ -1,4 +1,6 @@
 // The maker of tables.
+#![tactic(auto)]
+
 mod compare;
 mod end;
 mod join;

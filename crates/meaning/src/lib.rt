@@ -1,4 +1,6 @@
 // What the nodes of a text say of a packet: whether it passes a test, and which copies a policy gives of it.
+#![tactic(auto)]
+
 pub mod copies;
 pub mod evaluator;
 mod gives;

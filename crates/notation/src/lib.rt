@@ -1,4 +1,6 @@
 // The notation of a text: what people write, read to a text or to its first fault and the fault's line.
+#![tactic(auto)]
+
 mod kind;
 mod laws;
 pub mod marks;

@@ -1,4 +1,6 @@
 // Reading and writing bytes, and the faults that readers find.
+#![tactic(auto)]
+
 pub mod cursor;
 pub mod fault;
 

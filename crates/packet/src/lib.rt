@@ -1,4 +1,6 @@
 // A packet: eight fields of 16 bits, by value. What policies and tables do with packets is defined in specs/.
+#![tactic(auto)]
+
 ghost use Rattle.std.specs.Prelude.{◌≡◌, ◌<◌, ◌≤◌, ◌++◌, length, take, drop, Decides, MatchOption};
 ghost use Rattle.std.specs.Ordering.{MatchOrdering};
 ghost use Rattle.std.specs.Str.{bytes_eq};

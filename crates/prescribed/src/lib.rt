@@ -1,4 +1,6 @@
 // The table that is prescribed for a policy, and that it is right. All of it is in specs/ and proofs/.
+#![tactic(auto)]
+
 ghost use Rattle.prescribed.specs.Alike as alikes;
 ghost use Rattle.prescribed.specs.Fit as fits;
 ghost use Rattle.prescribed.specs.Right as rights;

@@ -1,4 +1,6 @@
 // The run of a net of switches and its promises. The crate has no code to run: each function carries one promise in its contract.
+#![tactic(auto)]
+
 ghost use Rattle.run.specs.Promise.{Promise};
 ghost use Rattle.run.specs.OnTheWay.{OnTheWay};
 ghost use Rattle.run.specs.Live.{Ends, CanEnd, AllLeave};

@@ -1,4 +1,6 @@
 // A switch: its state is small and goes by value; its tables lie in memory that it is lent, a place for each version that it can hold at once.
+#![tactic(auto)]
+
 pub mod marks;
 pub mod steps;
 pub mod versions;

@@ -1,4 +1,6 @@
 // Tables: rules in words, of which the first whose wants a packet meets decides.
+#![tactic(auto)]
+
 mod lines;
 mod matching;
 pub mod places;

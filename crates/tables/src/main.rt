@@ -1,4 +1,6 @@
 // tables: reads a text and prints its table.
+#![tactic(auto)]
+
 use answer::answer;
 use console::{Asked, arguments, refusal};
 use std::io::Read;

@@ -1,4 +1,6 @@
 // Texts: a policy written as a list of nodes, each built from earlier ones.
+#![tactic(auto)]
+
 pub mod format;
 pub mod node;
 pub mod texts;

@@ -1,4 +1,6 @@
 // The bytes that go over wires, and what the wires are: orders and answers, marks, frames, and lists of cables.
+#![tactic(auto)]
+
 mod board;
 pub mod cables;
 pub mod frame;
