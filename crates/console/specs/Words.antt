@@ -1,5 +1,5 @@
 -- What the words behind a program's name ask for: options come first, then files.
-use Rattle.std.specs.Prelude.{ℕ, ◌+◌, Bool, true, false, cond, ◌&&◌, List, [], ◌∷◌, codes, ◌==◌, slice_index}
+use Rattle.std.specs.Prelude.{ℕ, ◌+◌, Bool, true, cond, ◌&&◌, List, [], ◌∷◌, codes, ◌==◌, slice_index}
 use Rattle.std.specs.Str.{bytes_eq}
 use Rattle.console.specs.declared.arguments.Word.{Word}
 use Rattle.console.specs.declared.arguments.Word.TheVariants.{AskHelp, AskBytes, Unknown, File}

@@ -19,7 +19,7 @@ use Rattle.prescribed.proofs.Rising.{rising_all}
 use Rattle.leaves.specs.declared.pairs.Pair.{Pair}
 use Rattle.leaves.specs.declared.pairs.Pairs.{Pairs}
 use Rattle.leaves.specs.Pairs.{want_of, wants_of, pairs_in}
-use Rattle.leaves.specs.Under.{one, test_of, marked, Under}
+use Rattle.leaves.specs.Under.{test_of, marked, Under}
 use Rattle.leaves.proofs.Freed.{same_names}
 use Rattle.leaves.proofs.Marking.{marked_more}
 use Rattle.leaves.proofs.Placed.{rising_alike, rising_push}

@@ -1,5 +1,5 @@
 -- What a node of a text tests and puts, by what its operands do.
-use Rattle.std.proofs.Common.{◌≡◌, ℕ, ◌+◌, ◌<◌, ◌≤◌, true, ◌&&◌, List, [], ◌∷◌, ◌++◌, length, get_or, take, sym, refl, ap, ◌∙◌, ⊎_elim, arith}
+use Rattle.std.proofs.Common.{◌≡◌, ℕ, ◌<◌, ◌≤◌, true, ◌&&◌, List, [], ◌∷◌, ◌++◌, length, get_or, take, sym, refl, ap, ◌∙◌, ⊎_elim, arith}
 use mathlib.Core.List.Memᴰ
 use mathlib.Core.List.{Memᴰ}
 use Rattle.std.specs.List.{flat_map}
@@ -15,8 +15,8 @@ use Rattle.text.specs.Trees.{as_policy, test_at, policy_at, tree_of, trees}
 use Rattle.text.proofs.Sound.{fitting_take, fitting_at, fitting_there, sound_at}
 use Rattle.meaning.specs.Kept.{Earlier, Stands}
 use Rattle.meaning.proofs.Telling.{stands, test_keeps}
-use Rattle.prescribed.specs.Table.{tested, tested_in, put_in, names}
-use Rattle.leaves.specs.Under.{operands, one, test_of, name_of, marked}
+use Rattle.prescribed.specs.Table.{tested, tested_in, put_in}
+use Rattle.leaves.specs.Under.{operands, one, test_of, name_of}
 
 -- the pair that a node puts itself
 abbrev pub put_of : Node → List Want

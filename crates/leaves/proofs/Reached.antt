@@ -10,8 +10,8 @@ use Rattle.packet.specs.Table.{Want}
 use Rattle.text.specs.declared.node.Node.{Node}
 use Rattle.text.specs.Nodes.{sound}
 use Rattle.text.specs.Trees.{policy_at, trees, meaning}
-use Rattle.prescribed.specs.Table.{tested, tested_in, put_in}
-use Rattle.leaves.specs.Under.{operands, marking, one, test_of, name_of, marked, Under}
+use Rattle.prescribed.specs.Table.{tested_in, put_in}
+use Rattle.leaves.specs.Under.{operands, marking, test_of, name_of, marked, Under}
 use Rattle.leaves.proofs.Freed.{names_same}
 use Rattle.leaves.proofs.Parts.{put_of, name_parts, operand_earlier, node_at, Steps, standing, tested_steps, put_steps}
 use Rattle.leaves.proofs.Marking.{Marked, marks_keep, marks_there, marks_back, length_marking, one_mark, mark_there, joined_there, joined_back, marked_there, marked_back}

@@ -1,5 +1,5 @@
 -- What is left in the lent words: a table and zeros, which a switch reads as the table.
-use Rattle.std.proofs.Common.{◌≡◌, ℕ, ◌-◌, ◌*◌, ◌<◌, ◌≤◌, List, [], ◌++◌, length, take, drop, replicate, Ok, sym, refl, ap, ◌∙◌, subst, arith, length-drop, length-take}
+use Rattle.std.proofs.Common.{◌≡◌, ℕ, ◌-◌, ◌*◌, ◌<◌, ◌≤◌, List, [], ◌++◌, length, take, drop, replicate, Ok, sym, ap, ◌∙◌, subst, arith, length-drop, length-take}
 use lib.Seq.{drop-length, take-append_seam}
 use borrow.Rule.Slice.PartMut.{put_mid}
 use Rattle.std.proofs.lemmas.List.{append-nil}
@@ -16,7 +16,6 @@ use Rattle.table.proofs.Encoding.{reads_back}
 use Rattle.leaves.specs.Pairs.{pairs_in}
 use Rattle.maker.specs.declared.maker.Maker.{Maker}
 use Rattle.maker.specs.Makers.{policy_of, room, Handed}
-use Rattle.maker.specs.Whole as whole
 
 -- what a maker holds is its text's
 pub held : (m : Maker) → pairs_in m.pairs ≡ pairs_of (policy_of m)

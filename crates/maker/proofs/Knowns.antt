@@ -1,7 +1,7 @@
 -- What is known, pair by pair.
-use Rattle.std.proofs.Common.{◌≡◌, ℕ, zero, suc, ◌+◌, ◌<◌, ◌≤◌, Bool, true, false, ◌||◌, eqb, List, [], ◌∷◌, ◌++◌, map, length, get_or, take, drop, set, sym, refl, ap, ◌∙◌, arith}
+use Rattle.std.proofs.Common.{◌≡◌, ℕ, ◌+◌, ◌<◌, ◌≤◌, true, false, ◌||◌, List, [], ◌∷◌, ◌++◌, length, get_or, take, drop, set, sym, ap, ◌∙◌, arith}
 use Rattle.std.proofs.lemmas.List.{at_drop_more, at_drop_all, length-map, length-take-le, get_or-map, get_or-take, get_or_past, take_more_set, map-append}
-use Rattle.std.proofs.lemmas.Bool.{eq-eqb, ne_eqb, or_left}
+use Rattle.std.proofs.lemmas.Bool.{eq-eqb, ne_eqb}
 use Rattle.packet.specs.Table.{Want}
 use Rattle.prescribed.specs.Table.{is_known}
 use Rattle.leaves.specs.declared.pairs.Pair.{Pair}

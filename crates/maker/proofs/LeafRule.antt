@@ -1,9 +1,8 @@
 -- The rule of a leaf, in words and within the limits.
-use Rattle.std.proofs.Common.{◌≡◌, ℕ, suc, ◌+◌, ◌*◌, ◌<◌, ◌≤◌, true, false, eqb, List, [], ◌∷◌, ◌++◌, map, length, take, Ok, Err, sym, refl, ap, ◌∙◌, subst, arith}
+use Rattle.std.proofs.Common.{◌≡◌, ℕ, suc, ◌+◌, ◌≤◌, true, false, eqb, List, [], ◌∷◌, map, length, take, Ok, sym, refl, ap, ◌∙◌, arith}
 use Rattle.std.specs.List.{AllByRecursion as All}
 use Rattle.std.proofs.lemmas.List.{append-nil, length-map, length-take}
 use Rattle.std.proofs.lemmas.Bool.{cond_both}
-use Rattle.octets.specs.declared.fault.Fault.{Fault}
 use Rattle.packet.specs.Packet.{Packet}
 use Rattle.packet.specs.Policy.{Policy, copies, overfull}
 use Rattle.packet.specs.Table.{Want, Setting}
@@ -12,7 +11,7 @@ use Rattle.prescribed.specs.Table.{sample, changes, table_from}
 use Rattle.prescribed.specs.Fit.{leaves, crowded, long}
 use Rattle.prescribed.proofs.Rising.{rising_all}
 use Rattle.prescribed.proofs.Sample.{length_sample}
-use Rattle.table.specs.Good.{Each, GoodWant, GoodSetting, GoodOut, GoodRule}
+use Rattle.table.specs.Good.{Each, GoodWant, GoodOut}
 use Rattle.table.specs.Words.{rule_words, encode}
 use Rattle.maker.specs.declared.made.Made.TheVariants.{Rules}
 use Rattle.maker.specs.Making.{MadeOf}

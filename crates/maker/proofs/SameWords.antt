@@ -1,12 +1,12 @@
 -- Comparing the words of two tables compares the tables.
-use Rattle.std.proofs.Common.{◌≡◌, ℕ, zero, suc, ◌+◌, ◌-◌, ◌*◌, ◌<◌, ◌≤◌, Bool, true, false, cond, ◌&&◌, eqb, List, [], ◌∷◌, ◌++◌, length, Some, None, Option, sym, refl, ap, ◌∙◌, ⊎_elim, arith}
+use Rattle.std.proofs.Common.{◌≡◌, ℕ, zero, suc, ◌+◌, ◌*◌, ◌≤◌, Bool, true, false, cond, ◌&&◌, eqb, List, [], ◌∷◌, ◌++◌, length, Some, None, sym, refl, ap, ◌∙◌, ⊎_elim, arith}
 use Rattle.std.specs.List.{flat_map}
 use Rattle.std.proofs.lemmas.List.{append_assoc, length-append}
-use Rattle.std.proofs.lemmas.Bool.{eq-eqb, ne_eqb, eqb-true, eqb-false, cases_Bool, cond-true, cond-false, and_right}
+use Rattle.std.proofs.lemmas.Bool.{ne_eqb, eqb-true, eqb-false, cases_Bool, cond-true, cond-false, and_right}
 use Rattle.packet.specs.Table.{Want, Setting, Rule, Table}
 use Rattle.prescribed.specs.Table.{drop_field, without, same_want, same_setting, same_list, same_rule}
 use Rattle.table.specs.Words.{want_words, setting_words, out_words, rule_words, encode}
-use Rattle.maker.specs.Compare.{Past, on_past, words_past, Next, same_next, want_next, on_next, wants_past, out_past, outs_past, all_outs_past, rule_past, is_none, if_past, same_from}
+use Rattle.maker.specs.Compare.{Past, on_past, words_past, same_next, on_next, wants_past, out_past, outs_past, all_outs_past, rule_past, if_past, same_from}
 
 -- both rests, if the parts in front of them are the same
 abbrev ends : Bool → List ℕ → List ℕ → Past

@@ -1,8 +1,8 @@
 -- One step of comparing words.
-use Rattle.std.proofs.Common.{◌≡◌, ℕ, zero, suc, ◌+◌, ◌-◌, ◌*◌, ◌<◌, ◌≤◌, Bool, true, false, cond, ◌&&◌, eqb, List, [], ◌∷◌, length, get_or, take, drop, Some, None, Option, sym, refl, ap, ◌∙◌, arith}
+use Rattle.std.proofs.Common.{◌≡◌, ℕ, zero, suc, ◌+◌, ◌-◌, ◌<◌, ◌≤◌, false, List, [], ◌∷◌, length, get_or, take, drop, Some, None, sym, ap, ◌∙◌, arith}
 use Rattle.std.proofs.lemmas.List.{take_all}
 use Rattle.std.proofs.lemmas.Bool.{eq-eqb, ne_eqb, cond-true, cond-false, and_from}
-use Rattle.maker.specs.Compare.{Past, on_past, words_past, Next, same_next, want_next, on_next, wants_past, out_past, outs_past, all_outs_past, rule_past, if_past, same_from}
+use Rattle.maker.specs.Compare.{Past, on_past, words_past, same_next, want_next, on_next, wants_past, out_past, outs_past, all_outs_past, rule_past, if_past, same_from}
 
 -- what a slice pattern leaves behind the first word, and behind the first two
 abbrev pub behind : List ℕ → List ℕ

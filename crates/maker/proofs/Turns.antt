@@ -1,7 +1,7 @@
 -- From one pair to the next: what the recursion is given, and what it gives back.
-use Rattle.std.proofs.Common.{◌≡◌, ℕ, ◌+◌, ◌-◌, ◌*◌, ◌<◌, ◌≤◌, Bool, true, false, ◌||◌, eqb, List, [], ◌∷◌, ◌++◌, length, get_or, take, drop, Ok, Err, Result, sym, refl, ap, ◌∙◌, subst, arith, take-add}
+use Rattle.std.proofs.Common.{◌≡◌, ℕ, ◌+◌, ◌-◌, ◌*◌, ◌<◌, ◌≤◌, true, false, List, [], ◌∷◌, ◌++◌, length, take, drop, Ok, Err, Result, sym, refl, ap, ◌∙◌, subst, arith}
 use borrow.Rule.Slice.PartMut.{put_mid}
-use Rattle.std.proofs.lemmas.List.{take_at, drop_at, length-take-le, take-append-le, length-append, length-drop, length-take}
+use Rattle.std.proofs.lemmas.List.{take_at, drop_at, length-take-le, take-append-le, length-append, length-drop}
 use Rattle.std.proofs.lemmas.Bool.{eq-eqb, both_ways, or_right, or_left}
 use Rattle.octets.specs.declared.fault.Fault.{Fault}
 use Rattle.packet.specs.Packet.{Packet, put}
@@ -17,7 +17,7 @@ use Rattle.maker.specs.declared.known.Known.{Known}
 use Rattle.leaves.specs.Pairs.{want_of, wants_of}
 use Rattle.maker.specs.Knowing.{known_of}
 use Rattle.maker.specs.Making.{JoinedAs, rule_room, MadeOf}
-use Rattle.maker.specs.Tasks.{pair_at, field_at, Ordered, Counted, Task}
+use Rattle.maker.specs.Tasks.{pair_at, field_at, Task}
 use Rattle.table.specs.Good.{Each, GoodWant}
 use Rattle.maker.proofs.Joining.{each_append}
 use Rattle.maker.proofs.Recursing.{wants_more, wants_none, leaves_known, leaves_new, made_known, made_crowded_y, made_crowded_n, made_over_y, made_over_n, made_joined}

@@ -1,5 +1,5 @@
 -- Walking over the words of a rule, and where the table ends behind which no rule has outs.
-use Rattle.std.specs.Prelude.{◌≡◌, ℕ, zero, suc, ◌*◌, Bool, true, false, cond, List, [], ◌∷◌, length, drop, Some, None, Option, nat_le}
+use Rattle.std.specs.Prelude.{◌≡◌, ℕ, zero, suc, ◌*◌, cond, List, [], ◌∷◌, length, drop, Some, None, Option, nat_le}
 use Rattle.std.specs.Borrow.{Bor}
 use Rattle.packet.specs.Table.{Table}
 use Rattle.prescribed.specs.Table.{trim}

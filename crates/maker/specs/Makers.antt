@@ -3,7 +3,6 @@
 --   room a         how many words always suffice for the table of a
 --   Makes a ..     what is answered and what is left, lent so many words
 use Rattle.std.specs.Prelude.{◌≡◌, ℕ, ◌-◌, ◌*◌, ◌<◌, ◌≤◌, cond, List, ◌++◌, length, take, replicate, Ok, Err, Result, nat_lt}
-use Rattle.octets.specs.declared.fault.Fault.{Fault}
 use Rattle.octets.specs.Faults.{number}
 use Rattle.packet.specs.Policy.{Policy}
 use Rattle.packet.specs.Table.{Right}

@@ -1,5 +1,5 @@
 -- What a policy gives, by what its parts give.
-use Rattle.std.proofs.Common.{◌≡◌, ℕ, ◌+◌, ◌<◌, ◌≤◌, Bool, true, false, cond, ◌||◌, ltb, List, [], ◌∷◌, ◌++◌, length, get_or, take, drop, Ok, Err, Result, sym, refl, ap, ◌∙◌, subst, arith}
+use Rattle.std.proofs.Common.{◌≡◌, ℕ, ◌+◌, ◌<◌, ◌≤◌, Bool, true, false, ◌||◌, ltb, List, [], ◌∷◌, ◌++◌, length, get_or, take, drop, Ok, Err, Result, sym, refl, ap, ◌∙◌, subst, arith}
 use Rattle.std.proofs.lemmas.Bool.{cond-true, cond-false, ltb-true, lt-ltb, or_from, or_left, or_right}
 use Rattle.std.proofs.lemmas.List.{map_more, map-append, take-append-drop, take_all}
 use Rattle.octets.specs.declared.fault.Fault.{Fault}
@@ -8,7 +8,7 @@ use Rattle.packet.specs.Packet as packets
 use Rattle.packet.specs.Packet.{once, put}
 use Rattle.packet.specs.declared.Packet.{Packet}
 use Rattle.packet.specs.Policy.{Test, holds, Policy, keep, puts, and, then, each, copies, some, overfull}
-use Rattle.packet.proofs.Once.{once_both, once_one, once_grows, once_twice, some_append, some_once, each_append, each_one, each_once}
+use Rattle.packet.proofs.Once.{once_both, once_one, once_grows, some_append, some_once, each_append, each_one, each_once}
 use Rattle.meaning.specs.declared.copies.Copies.{Copies}
 use Rattle.meaning.specs.Listed.{fields_of}
 use Rattle.meaning.specs.Answers.{listing, Told, Answered, AnsweredEach}

@@ -1,5 +1,5 @@
 -- What is written is read back.
-use Rattle.std.proofs.Common.{◌≡◌, ℕ, ◌+◌, ◌^◌, ◌<◌, ◌≤◌, Bool, true, false, cond, ◌&&◌, leb, List, [], ◌∷◌, ◌++◌, map, length, Some, None, decimal, Option, sym, refl, ap, ◌∙◌, arith}
+use Rattle.std.proofs.Common.{◌≡◌, ℕ, ◌+◌, ◌^◌, ◌<◌, ◌≤◌, true, ◌&&◌, leb, List, [], ◌∷◌, ◌++◌, map, length, Some, decimal, sym, refl, ap, ◌∙◌, arith}
 use Rattle.std.specs.List.{AllByRecursion as All}
 use Rattle.std.proofs.lemmas.List.{append-nil, append_assoc, length_push, length-append}
 use Rattle.std.proofs.lemmas.Bool.{and_parts, leb-true, le-leb}
@@ -15,12 +15,12 @@ use Rattle.notation.specs.declared.marks.Mark.TheVariants.{Newline, Semicolon, H
 use Rattle.notation.specs.Kinds.{same_word, word_of, kind_of}
 use Rattle.notation.specs.Marks.{before, parts}
 use Rattle.notation.specs.Numbers.{goes_on, number_of}
-use Rattle.notation.specs.Words.{Word, words_of}
-use Rattle.notation.specs.Reading.{Got, Read, Bad, and_then, check, or_form, numeral, up_to, ended}
+use Rattle.notation.specs.Words.{Word}
+use Rattle.notation.specs.Reading.{Read, and_then, check, or_form, numeral, up_to, ended}
 use Rattle.notation.specs.Operands.{Sofar, latest, written, one, two_written, two, added}
-use Rattle.notation.specs.Notation.{setting, from, of_kind, node_in, nodes_in, line_in, Outcome, Whole, at_line, finished, lines_in}
+use Rattle.notation.specs.Notation.{setting, from, of_kind, node_in, nodes_in, line_in, at_line, finished, lines_in}
 use Rattle.notation.specs.Writing.{kind_in, numbers_in, spaced, written_nodes, Short, ReadsBack, LeftOut}
-use Rattle.notation.proofs.Splits.{Solid, parts_first, parts_last, before_clear, word_solid, decimal_good, words_spaced, line_clear}
+use Rattle.notation.proofs.Splits.{parts_first, parts_last, before_clear, word_solid, decimal_good, words_spaced, line_clear}
 use Rattle.notation.proofs.Turns.{node_more, finished_some}
 
 kind_word : (k : Kind) → kind_of (word_of k) ≡ Some k

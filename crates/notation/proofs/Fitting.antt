@@ -1,5 +1,5 @@
 -- A node that is read from words may follow the nodes so far.
-use Rattle.std.proofs.Common.{◌≡◌, ℕ, Bool, true, false, cond, ◌&&◌, leb, List, length, Some, None, Option, sym, refl, ap, ◌∙◌, arith}
+use Rattle.std.proofs.Common.{◌≡◌, ℕ, Bool, true, false, cond, ◌&&◌, leb, List, length, Some, None, Option, refl, arith}
 use Rattle.std.proofs.lemmas.Bool.{and_from}
 use Rattle.text.specs.declared.node.Node.{Node}
 use Rattle.text.specs.declared.node.Sort.{Sort}

@@ -1,5 +1,5 @@
 -- One node more, one line more, and the ends of both.
-use Rattle.std.proofs.Common.{◌≡◌, ℕ, ◌+◌, ◌<◌, Bool, true, false, not, ltb, List, [], ◌∷◌, length, drop, Some, None, Option, sym, refl, ap, ◌∙◌, arith}
+use Rattle.std.proofs.Common.{◌≡◌, ℕ, ◌+◌, ◌<◌, true, not, ltb, List, [], ◌∷◌, length, drop, Some, sym, refl, ap, ◌∙◌, arith}
 use Rattle.std.proofs.lemmas.Bool.{true≢false, cond-true, lt-ltb}
 use Rattle.text.specs.declared.node.Node.{Node}
 use Rattle.notation.specs.declared.marks.Mark.{Mark}
@@ -8,9 +8,9 @@ use Rattle.notation.specs.declared.kind.Kind.{Kind}
 use Rattle.notation.specs.Kinds.{kind_of}
 use Rattle.notation.specs.Marks.{before, behind, parts}
 use Rattle.notation.specs.Words.{Word, some, first, words_of}
-use Rattle.notation.specs.Reading.{Got, Read, Bad, and_then, ended}
+use Rattle.notation.specs.Reading.{Read, Bad, and_then, ended}
 use Rattle.notation.specs.Operands.{Sofar, added}
-use Rattle.notation.specs.Notation.{of_kind, one_more, node_in, nodes_in, line_in, Outcome, Whole, Refused, at_line, finished, lines_in}
+use Rattle.notation.specs.Notation.{of_kind, one_more, node_in, nodes_in, line_in, Whole, Refused, at_line, finished, lines_in}
 use Rattle.notation.proofs.Cuts.{parts_cut}
 
 pub ended_none : {X : Type 0} (x : X) (ws : List Word) → true ≡ not (some ws) → Read x [] ≡ ended x ws

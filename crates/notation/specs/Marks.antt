@@ -1,5 +1,5 @@
 -- Bytes that end a part of the input: a line, a node, a comment's front, a word.
-use Rattle.std.specs.Prelude.{ℕ, Bool, true, false, cond, ◌||◌, List, [], ◌∷◌, ◌==◌}
+use Rattle.std.specs.Prelude.{ℕ, Bool, cond, ◌||◌, List, [], ◌∷◌, ◌==◌}
 use Rattle.notation.specs.declared.marks.Mark.{Mark}
 use Rattle.notation.specs.declared.marks.Mark.TheVariants.{Newline, Semicolon, Hash, Blank}
 

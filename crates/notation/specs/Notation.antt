@@ -1,5 +1,5 @@
 -- The notation of a text: from bytes to nodes, or to the number of the first fault and its line.
-use Rattle.std.specs.Prelude.{ℕ, ◌+◌, Bool, true, false, cond, List, [], ◌∷◌, length, replicate, Some, None, Option, nat_lt}
+use Rattle.std.specs.Prelude.{ℕ, ◌+◌, false, cond, List, [], ◌∷◌, length, replicate, Some, None, Option, nat_lt}
 use Rattle.text.specs.declared.node.Node.{Node}
 use Rattle.text.specs.declared.node.Node.TheVariants as node
 use Rattle.text.specs.declared.node.Sort.TheVariants.{Test, Policy}
@@ -8,7 +8,7 @@ use Rattle.notation.specs.declared.kind.Kind.TheVariants.{Always, Is, Both, Eith
 use Rattle.notation.specs.declared.marks.Mark.TheVariants.{Newline, Semicolon, Hash}
 use Rattle.notation.specs.Kinds.{kind_of}
 use Rattle.notation.specs.Marks.{before, parts}
-use Rattle.notation.specs.Words.{Word, some, words_of}
+use Rattle.notation.specs.Words.{Word, words_of}
 use Rattle.notation.specs.Reading.{Got, Read, Bad, and_then, up_to, ended}
 use Rattle.notation.specs.Operands.{Sofar, one, two, added}
 

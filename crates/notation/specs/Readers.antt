@@ -1,5 +1,5 @@
 -- What a reader's answer says.
-use Rattle.std.specs.Prelude.{ℕ, List, [], Ok, Err, Result}
+use Rattle.std.specs.Prelude.{List, [], Ok, Err, Result}
 use Rattle.octets.specs.declared.fault.Fault.{Fault}
 use Rattle.octets.specs.Faults.{number}
 use Rattle.text.specs.declared.texts.Text.{Text}

@@ -7,7 +7,7 @@ use Rattle.text.specs.Nodes.{sound}
 use Rattle.notation.specs.declared.kind.Kind.{Kind}
 use Rattle.notation.specs.declared.kind.Kind.TheVariants.{Always, Is, Both, Either, Not, Keep, Put, And, Then}
 use Rattle.notation.specs.Kinds.{word_of}
-use Rattle.notation.specs.Notation.{Outcome, Whole, text_in}
+use Rattle.notation.specs.Notation.{Whole, text_in}
 
 abbrev pub kind_in : Node → Kind
 kind_in node.Always = Always

@@ -1,5 +1,5 @@
 -- Reading at a place of a list of bytes.
-use Rattle.std.proofs.Common.{◌≡◌, ℕ, ◌+◌, ◌<◌, ◌≤◌, leb, List, [], ◌∷◌, length, get_or, drop, Decides, sym, refl, ap, arith, length-drop, le-leb, leb-true}
+use Rattle.std.proofs.Common.{◌≡◌, ℕ, ◌+◌, ◌<◌, ◌≤◌, leb, List, [], length, get_or, drop, Decides, sym, ap, arith, length-drop, le-leb, leb-true}
 use Rattle.std.proofs.lemmas.List.{drop_more, drop_all}
 use Rattle.octets.specs.Parse.{Read, Bad, byte}
 

@@ -1,5 +1,5 @@
 -- What holds of every value that a reader gives, and how that follows from its parts.
-use Rattle.std.proofs.Common.{◌≡◌, ℕ, Bool, true, false, cond, List, [], ◌∷◌, sym, refl, ap, ◌∙◌, subst}
+use Rattle.std.proofs.Common.{◌≡◌, ℕ, Bool, true, false, cond, List, refl, subst}
 use Rattle.octets.specs.Parse.{Got, Read, Bad, and_then, check}
 use Rattle.octets.proofs.Streams.{never}
 

@@ -1,5 +1,5 @@
 -- Tables: lists of rules, of which the first whose wants a packet meets decides.
-use Rattle.std.specs.Prelude.{ℕ, Bool, true, false, cond, ◌&&◌, List, [], ◌∷◌, ◌==◌}
+use Rattle.std.specs.Prelude.{ℕ, Bool, true, cond, ◌&&◌, List, [], ◌∷◌, ◌==◌}
 use Rattle.packet.specs.Packet.{Packet, IsPacket, field, put, SameSet, once}
 use Rattle.packet.specs.Policy.{Policy, copies}
 

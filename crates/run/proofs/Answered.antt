@@ -6,8 +6,8 @@ use Rattle.packet.specs.Packet.{Packet, field}
 use Rattle.packet.specs.Table.{sent}
 use Rattle.run.specs.Net.{Net, Wire, Outside, To, Nothing}
 use Rattle.run.specs.Order.{Order, Install, Stamp, Round, Remove, Answer, answer_to}
-use Rattle.run.specs.Switch.{mark_of, Frame, Switch, Message, Reply, MarkOn, FrameOn, Leave, Turn, knows, table_of, obey, marks_for, done, pass_on, pass_all, take_frame, take_mark, take_order, fresh}
-use Rattle.run.specs.Run.{Entry, Item, frame, mark, State, Step, enter, arrive, lose, order, hear, next, change, with_switch, with_queue, with_entry, turned, entry}
+use Rattle.run.specs.Switch.{mark_of, Frame, Switch, Message, Reply, MarkOn, FrameOn, Leave, Turn, knows, table_of, obey, marks_for, done, pass_on, take_frame, take_mark, take_order, fresh}
+use Rattle.run.specs.Run.{Entry, frame, mark, State, Step, enter, arrive, lose, order, hear, next, change, with_switch, with_queue, with_entry, turned, entry}
 use Rattle.run.proofs.Lists.{by_test, never}
 use Rattle.run.proofs.Frames.{pass_mem}
 use Rattle.run.proofs.Orders.{marks_mem}

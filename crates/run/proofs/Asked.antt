@@ -1,10 +1,9 @@
 -- Which orders were given, as the desk goes from stage to stage: those that were, and those of the new stage.
-use Rattle.std.proofs.Common.{◌≡◌, ℕ, ◌+◌, ◌<◌, ◌≤◌, cond, T, ltb, ◌⊎◌, List, [], ◌∷◌, sym, refl, ap, ◌∙◌, subst, inl, inr, ⊎_elim, arith, ltb→lt, nltb→le}
+use Rattle.std.proofs.Common.{◌≡◌, ℕ, ◌+◌, ◌<◌, ◌≤◌, ltb, ◌⊎◌, List, [], ◌∷◌, sym, refl, ap, ◌∙◌, subst, inl, inr, ⊎_elim, arith, ltb→lt, nltb→le}
 use mathlib.Core.List.Memᴰ
 use mathlib.Core.List.{Memᴰ}
-use Rattle.packet.specs.Table.{Table}
 use Rattle.run.specs.Net.{Plan}
-use Rattle.run.specs.Order.{Order, Install, Stamp, Round, Remove, Answer, Installed, Stamped, Reached, Removed, answer_to}
+use Rattle.run.specs.Order.{Order, Answer, Installed, Stamped, Reached, Removed, answer_to}
 use Rattle.run.specs.Desk.{Stage, Idle, Installing, Stamping, Flushing, Removing, Desk, Busy, orders_in, after_round, on_from, changed}
 use Rattle.run.specs.Past.{rank, AskedAt, awaited_in, order_for}
 use Rattle.run.proofs.Inv.{StageOk}

@@ -1,5 +1,5 @@
 -- An install of the desk's old version or of an earlier one is ignored, so it makes no difference which table it carries.
-use Rattle.std.proofs.Common.{◌≡◌, ℕ, ◌+◌, ◌<◌, ◌≤◌, Bool, true, false, cond, not, ◌&&◌, T, leb, [], ◌∷◌, ◌++◌, sym, refl, ap, ◌∙◌, subst, inl, arith, leb→le, T_not}
+use Rattle.std.proofs.Common.{◌≡◌, ℕ, ◌<◌, ◌≤◌, Bool, true, false, cond, not, ◌&&◌, T, leb, [], ◌∷◌, ◌++◌, sym, refl, ap, ◌∙◌, subst, inl, arith, leb→le, T_not}
 use Rattle.packet.specs.Table.{Table}
 use Rattle.run.specs.Net.{Net, GoodNet, Wire}
 use Rattle.run.specs.Order.{Install, Installed}

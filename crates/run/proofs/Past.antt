@@ -1,17 +1,17 @@
 -- What has been ordered and answered is told by the desk, and a switch has a place for every table that it is to take in.
-use Rattle.std.proofs.Common.{◌≡◌, ℕ, ◌+◌, ◌<◌, ◌≤◌, eqb, ◌⊎◌, List, [], ◌∷◌, ◌++◌, sym, refl, ap, ◌∙◌, subst, inl, inr, ⊎_elim, arith, eqb→eq}
+use Rattle.std.proofs.Common.{◌≡◌, ℕ, ◌+◌, ◌<◌, eqb, ◌⊎◌, List, [], ◌++◌, sym, refl, ap, ◌∙◌, subst, inl, inr, ⊎_elim, arith, eqb→eq}
 use mathlib.Core.List.Memᴰ
 use mathlib.Core.List.{Memᴰ}
 use Rattle.run.specs.At.{at}
 use Rattle.run.specs.Net.{Net, Plan, GoodNet}
 use Rattle.run.specs.Order.{Order, Install, Answer, Installed, Stamped, Reached, Removed, answer_to}
-use Rattle.run.specs.Desk.{Stage, Idle, Desk, Busy, orders_in, AllSeen, onwards, changed}
-use Rattle.run.specs.Run.{State, Step, Steps, stay, more, Reach, with_plan, wanted, commanded}
+use Rattle.run.specs.Desk.{Stage, Idle, Desk, Busy, orders_in, onwards, changed}
+use Rattle.run.specs.Run.{State, stay, more, Reach}
 use Rattle.run.specs.Past.{WasAsked, AskedAt, awaited, awaited_in, order_for, PastIsTold}
-use Rattle.run.proofs.Inv.{InvAt, Inv}
+use Rattle.run.proofs.Inv.{InvAt}
 use Rattle.run.proofs.Lists.{by_test}
 use Rattle.run.proofs.Room.{place}
-use Rattle.run.proofs.Steps.{Quiet, Desks, quiet, hears, goes, begins, desks}
+use Rattle.run.proofs.Steps.{Desks, quiet, hears, goes, begins, desks}
 use Rattle.run.proofs.Whole.{now}
 use Rattle.run.proofs.Asked.{Turns, goes_on, wanted_is, is_wanted, answer_for}
 use Rattle.run.proofs.Asked as asked

@@ -1,15 +1,14 @@
 -- The promise holds over any list of calls.
-use Rattle.std.proofs.Common.{◌≡◌, ℕ, ◌+◌, ◌<◌, ◌≤◌, ◌⊎◌, List, [], ◌∷◌, ◌++◌, sym, refl, ap, ◌∙◌, subst, inl, inr, ⊎_elim, append_assoc, append-nil, le_trans, arith}
+use Rattle.std.proofs.Common.{◌≡◌, ℕ, ◌<◌, ◌≤◌, ◌⊎◌, List, [], ◌∷◌, ◌++◌, sym, refl, ap, ◌∙◌, subst, inl, inr, ⊎_elim, append_assoc, arith}
 use mathlib.Core.List.Memᴰ
 use mathlib.Core.List.{Memᴰ}
 use Rattle.packet.specs.Packet.{Packet}
 use Rattle.run.specs.Net.{Plan, Net, GoodNet, Cable, Leaves}
-use Rattle.run.specs.Desk.{Idle, Installing}
-use Rattle.run.specs.Run.{Entry, Exit, Fallen, State, Steps, stay, more, Reach, entry}
+use Rattle.run.specs.Desk.{Idle}
+use Rattle.run.specs.Run.{Entry, Exit, Fallen, State, Steps, stay, Reach, entry}
 use Rattle.run.specs.Promise.{Holds, Whole, Coming, Missed}
-use Rattle.run.specs.Promise as promise
 use Rattle.run.specs.Calls.{Call, Enter, Change, Event, Left, LostFrame, LostMark, Staged, Shown, Refused, Impossible, left_of, Does, Done, did, Played, begun, then}
-use Rattle.run.specs.Rehearsal.{Told, PlanOf, CameIn, ToldLost, Behind, Kept, Rehearsal}
+use Rattle.run.specs.Rehearsal.{Told, PlanOf, CameIn, ToldLost, Behind, Rehearsal}
 use Rattle.run.proofs.Lists.{never, snoc_cases, snoc_old, snoc_last, mem_split}
 use Rattle.run.proofs.Steps.{grown, entries_stay}
 use Rattle.run.proofs.Whole as whole

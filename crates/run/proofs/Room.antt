@@ -3,7 +3,7 @@ use Rattle.std.proofs.Common.{◌≡◌, ℕ, ◌+◌, ◌<◌, ◌≤◌, not, 
 use lib.Dec.{eqb_refl}
 use Rattle.run.specs.Net.{Net, GoodNet}
 use Rattle.run.specs.Order.{Order, Install, Stamp, Round, Remove}
-use Rattle.run.specs.Switch.{Held, Switch, Turn, knows, gone, without, later, keep_mark, obey, take_frame, take_packet, take_mark, take_order}
+use Rattle.run.specs.Switch.{Held, Switch, Turn, knows, gone, without, later, obey, take_frame, take_packet, take_mark, take_order}
 use Rattle.run.specs.Run.{Entry, frame, mark, State, Step, enter, arrive, lose, order, hear, next, change, stay, more, Reach, with_switch, with_queue, with_entry, turned, entry}
 use Rattle.run.proofs.Inv.{time_of, Spans, Has, old, both, new, Inv}
 use Rattle.run.proofs.Lists.{by_test, at_case, or_l, or_r, and_l, and_r, not_so}

@@ -8,9 +8,9 @@ use Rattle.run.specs.Order as lead
 use Rattle.run.specs.Order.{Answer}
 use Rattle.run.specs.Switch.{Switch, Message, Reply, MarkOn, FrameOn, Leave, Turn, take_order, take_frame, take_mark, take_packet}
 use Rattle.run.specs.Desk.{Stage, Idle, Installing, Stamping, Flushing, Removing, Desk, Busy, heard, on_from, onwards}
-use Rattle.run.specs.Run.{Entry, Item, frame, mark, Exit, Fallen, State, Step, enter, arrive, lose, order, hear, next, change, Steps, stay, more, with_switch, with_queue, with_desk, with_entry, turned, entry, ordered}
+use Rattle.run.specs.Run.{Entry, frame, mark, Exit, Fallen, State, Step, enter, arrive, lose, order, hear, next, change, Steps, stay, more, with_switch, with_queue, with_desk, with_entry, turned, entry, ordered}
 use Rattle.run.specs.Past.{awaited_in, awaited, order_for}
-use Rattle.run.specs.Calls.{Call, Enter, Arrive, Lose, Order, Hear, Change, Faulty, Show, Event, Left, LostFrame, LostMark, Staged, Shown, Refused, Impossible, left_of, lost_of, about, staged_of, shown_of, shown_to, WasSaid, Does, enters, kept_out, arrives, none_arrives, loses, none_to_lose, orders, never_given, hears, goes_on, not_awaited, never_said, changes, too_early, no_version, refuses, shows}
+use Rattle.run.specs.Calls.{Call, Enter, Change, Event, Left, LostFrame, LostMark, Staged, Refused, Impossible, left_of, about, staged_of, shown_of, shown_to, WasSaid, Does, enters, kept_out, arrives, none_arrives, loses, none_to_lose, orders, never_given, hears, goes_on, not_awaited, never_said, changes, too_early, no_version, refuses, shows}
 use Rattle.run.proofs.Lists.{by_test, never, neqb, snoc_cases}
 use Rattle.run.proofs.Moves.{leaving, moves_add}
 use Rattle.run.proofs.Asked.{is_wanted, answer_for}

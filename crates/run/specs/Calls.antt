@@ -7,7 +7,7 @@ use Rattle.run.specs.Order as lead
 use Rattle.run.specs.Order.{Answer, answer_to}
 use Rattle.run.specs.Switch.{Mark, Frame, Held, Switch}
 use Rattle.run.specs.Desk.{Stage, Idle, Installing, Stamping, Flushing, Removing, Desk, Busy, heard, AllSeen, onwards, next_version, changed}
-use Rattle.run.specs.Run.{Item, frame, mark, Exit, State, start, with_queue, with_desk, with_plan, entered, arrived, fall, ordered, wanted, commanded}
+use Rattle.run.specs.Run.{Item, frame, mark, Exit, State, start, with_queue, with_desk, with_plan, entered, arrived, fall, ordered, commanded}
 use Rattle.run.specs.Past.{awaited}
 
 pub data Call : Type 0 where

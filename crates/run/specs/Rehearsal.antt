@@ -6,9 +6,9 @@ use Rattle.packet.specs.Policy.{Policy}
 use Rattle.run.specs.Net.{Plan, Net, Cable, GoodNet, Goes, Leaves}
 use Rattle.run.specs.Switch.{Frame, knows}
 use Rattle.run.specs.Desk.{Idle, Installing}
-use Rattle.run.specs.Run.{Carried, Item, frame, State, entry}
+use Rattle.run.specs.Run.{Carried, frame, State, entry}
 use Rattle.run.specs.Promise.{Holds, Coming}
-use Rattle.run.specs.Calls.{Call, Enter, Change, Event, Left, LostFrame, Staged, Refused, Done, did, Played}
+use Rattle.run.specs.Calls.{Enter, Change, Event, Left, LostFrame, Staged, Refused, Done, did, Played}
 
 -- somewhere in the list this was told
 pub record Told (ds : List Done) (e : Event) : Type 0 where

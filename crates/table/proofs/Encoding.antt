@@ -4,7 +4,7 @@ use Rattle.std.specs.List.{flat_map}
 use Rattle.std.proofs.lemmas.Bool.{and_parts, and_from, leb-true, lt-ltb, le-leb, cases_lt}
 use Rattle.std.proofs.lemmas.List.{append_assoc, get_or-drop, drop-drop, drop_more, drop_all, length-drop}
 use Rattle.packet.specs.Table.{Setting, Rule, Table}
-use Rattle.table.specs.Words.{most_rules, want_size, setting_size, word, want_at, setting_at, row, wants_from, settings_from, out_at, out_end, outs_from, end_from, wants_at, wants_end, outs_at, rule_at, rule_end, rules_from, row_in, few_in, outs_from_in, rule_in, sound_from, sound, want_words, setting_words, out_words, rule_words, encode}
+use Rattle.table.specs.Words.{most_rules, want_size, setting_size, word, want_at, setting_at, row, wants_from, settings_from, out_at, out_end, outs_from, end_from, wants_at, wants_end, outs_at, rule_at, rule_end, rules_from, row_in, few_in, outs_from_in, rule_in, sound_from, want_words, setting_words, out_words, rule_words, encode}
 use Rattle.table.specs.Good.{Each, GoodOut, GoodRule, ReadsBack, WritesBack}
 use Rattle.table.proofs.Steps.{row_in_step, thing_room, few_parts, outs_in_step, outs_parts, Walk, walk_start, walk_more, rule_parts, rules_none, rules_more, sound_more, sound_none, sound_last, rules_past}
 

@@ -4,6 +4,7 @@
 use answer::answer;
 use console::{Asked, arguments, refusal};
 use std::io::Read;
+use std::process::ExitCode;
 use std::{env, fs, io};
 
 mod answer;
@@ -17,10 +18,16 @@ Reads a text from the file or standard input and prints its table, a rule to a l
   --help   prints this
 ";
 
-// Writes a line to standard error, and ends with an error.
-fn fail(rt: &HostRuntime, line: String) -> io::Result<()> {
+// Writes a line to standard error; the program is to end with status 1.
+fn fail(rt: &HostRuntime, line: String) -> io::Result<ExitCode> {
     rt.eprintln(line)?;
-    Err(io::Error::from(io::ErrorKind::InvalidInput))
+    Ok(ExitCode::FAILURE)
+}
+
+// Writes a text to standard output; the program is to end with status 0.
+fn done(rt: &HostRuntime, text: &str) -> io::Result<ExitCode> {
+    rt.print(text)?;
+    Ok(ExitCode::SUCCESS)
 }
 
 fn input(rt: &HostRuntime, file: Option<&String>) -> io::Result<Vec<u8>> {
@@ -35,14 +42,14 @@ fn input(rt: &HostRuntime, file: Option<&String>) -> io::Result<Vec<u8>> {
     }
 }
 
-fn main(rt: HostRuntime) -> io::Result<()> {
+fn main(rt: HostRuntime) -> io::Result<ExitCode> {
     let heap = rt.alloc();
     let mut words = Vec::new(heap);
     for word in env::args(&rt)?.skip(1) {
         words.push(word)?;
     }
     let (bytes, files) = match arguments::read(words.as_slice(), true) {
-        Asked::Help => return rt.print(HELP),
+        Asked::Help => return done(&rt, HELP),
         Asked::Wrong => return fail(&rt, refusal::misused(heap, "tables", USAGE)?),
         Asked::Run { bytes, files } => (bytes, files),
     };
@@ -53,7 +60,7 @@ fn main(rt: HostRuntime) -> io::Result<()> {
         return fail(&rt, refusal::unreadable(heap, "tables", "the input")?);
     };
     match answer(heap, bytes, all.as_slice()) {
-        Ok(lines) => rt.print(lines.as_str()),
+        Ok(lines) => done(&rt, lines.as_str()),
         Err(refusal) => {
             let line = refusal::refused(heap, "tables", refusal.line, refusal.fault)?;
             fail(&rt, line)

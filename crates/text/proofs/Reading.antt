@@ -1,8 +1,8 @@
 -- Reading nodes: what is read fits, one node more, and the first node that is at fault.
-use Rattle.std.proofs.Common.{◌≡◌, ℕ, zero, suc, ◌+◌, ◌-◌, ◌<◌, ◌≤◌, Bool, true, false, cond, ◌&&◌, eqb, leb, List, [], ◌∷◌, ◌++◌, length, sym, refl, ap, ◌∙◌, arith}
+use Rattle.std.proofs.Common.{◌≡◌, ℕ, zero, suc, ◌+◌, ◌-◌, ◌<◌, true, eqb, leb, List, [], ◌∷◌, ◌++◌, length, sym, refl, ap, ◌∙◌, arith}
 use Rattle.std.proofs.lemmas.List.{length_push}
 use Rattle.std.proofs.lemmas.Bool.{and_from}
-use Rattle.octets.specs.Parse.{Got, Read, Bad, and_then, check, byte, word}
+use Rattle.octets.specs.Parse.{Read, Bad, and_then, check, byte, word}
 use Rattle.octets.proofs.Yields.{Yields, yields_read, yields_bad, yields_check, yields_cond, yields_then, yields_any}
 use Rattle.text.specs.declared.node.Node.{Node}
 use Rattle.text.specs.declared.node.Node.TheVariants.{Always, Is, Both, Either, Not, Keep, Put, And, Then}

@@ -1,11 +1,10 @@
 -- What each node of a text stands for, by what the nodes that it names stand for.
-use Rattle.std.proofs.Common.{◌≡◌, ℕ, ◌+◌, ◌<◌, ◌≤◌, Bool, true, false, ◌&&◌, List, [], ◌∷◌, ◌++◌, length, get_or, take, drop, sym, refl, ap, ◌∙◌, arith}
+use Rattle.std.proofs.Common.{◌≡◌, ℕ, ◌+◌, ◌<◌, ◌≤◌, true, List, [], ◌∷◌, ◌++◌, length, get_or, take, drop, sym, refl, ap, ◌∙◌, arith}
 use Rattle.std.proofs.lemmas.List.{take-append-drop, drop_more, get_or_append_left, get_or_push, get_or_past, length_push, length-take-le}
 use Rattle.std.proofs.lemmas.Bool.{and_parts}
-use Rattle.packet.specs.Policy.{Test, always, is, both, either, isnt, Policy, keep, puts, and, then}
+use Rattle.packet.specs.Policy.{both, either, isnt, keep, and, then}
 use Rattle.text.specs.declared.node.Node.{Node}
 use Rattle.text.specs.declared.node.Node.TheVariants.{Always, Is, Both, Either, Not, Keep, Put, And, Then}
-use Rattle.text.specs.declared.node.Sort.{Sort}
 use Rattle.text.specs.declared.node.Sort.TheVariants as sorts
 use Rattle.text.specs.Nodes.{fitting, fits, sound}
 use Rattle.text.specs.Trees.{Tree, a_test, a_policy, as_test, as_policy, test_at, policy_at, tree_of, build, trees}

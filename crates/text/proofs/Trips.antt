@@ -1,12 +1,12 @@
 -- Reading and writing texts undo each other.
-use Rattle.std.proofs.Common.{◌≡◌, ℕ, zero, suc, ◌+◌, ◌*◌, ◌/◌, ◌%◌, ◌<◌, ◌≤◌, Bool, true, false, cond, ◌&&◌, eqb, ltb, leb, List, [], ◌∷◌, ◌++◌, length, take, sym, refl, ap, ◌∙◌, subst, arith}
+use Rattle.std.proofs.Common.{◌≡◌, ℕ, zero, suc, ◌+◌, ◌*◌, ◌/◌, ◌%◌, ◌<◌, ◌≤◌, Bool, true, ◌&&◌, eqb, ltb, leb, List, [], ◌∷◌, ◌++◌, length, take, sym, refl, ap, ◌∙◌, subst, arith}
 use Rattle.std.specs.List.{flat_map}
 use Rattle.std.proofs.lemmas.List.{append-nil, append_assoc}
-use Rattle.std.proofs.lemmas.Bool.{and_parts, and_from, lt-ltb, le-leb, ltb-true, leb-true, eqb-true}
-use Rattle.octets.specs.Parse.{Got, Read, Bad, and_then, check, byte, word, ended, Bytes, word_bytes}
+use Rattle.std.proofs.lemmas.Bool.{and_parts, lt-ltb, le-leb, ltb-true, leb-true, eqb-true}
+use Rattle.octets.specs.Parse.{Got, Read, Bad, and_then, check, byte, word, ended, word_bytes}
 use Rattle.octets.specs.Streams.{Consumes, Streams}
 use Rattle.octets.proofs.Streams.{never, streams_read, streams_bad, streams_byte, streams_word, streams_check, streams_cond, streams_then}
-use Rattle.octets.proofs.Spells.{Spelt, Spells, spells_read, spells_bad, spells_byte, spells_word, spells_check, spells_cond, spells_then}
+use Rattle.octets.proofs.Spells.{Spells, spells_read, spells_bad, spells_byte, spells_word, spells_check, spells_cond, spells_then}
 use Rattle.octets.proofs.Yields.{Yields, yields_read, yields_check, yields_then, yields_any}
 use Rattle.text.specs.declared.node.Node.{Node}
 use Rattle.text.specs.declared.node.Node.TheVariants.{Always, Is, Both, Either, Not, Keep, Put, And, Then}

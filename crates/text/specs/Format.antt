@@ -1,5 +1,5 @@
 -- The bytes of a text: its switch, the number of its nodes, the nodes.
-use Rattle.std.specs.Prelude.{ℕ, zero, suc, Bool, cond, ◌&&◌, List, [], ◌∷◌, ◌++◌, length, ◌==◌, nat_le, nat_lt}
+use Rattle.std.specs.Prelude.{ℕ, zero, suc, cond, ◌&&◌, List, [], ◌∷◌, ◌++◌, length, ◌==◌, nat_le, nat_lt}
 use Rattle.std.specs.List.{flat_map}
 use Rattle.octets.specs.Parse.{Got, Read, Bad, and_then, check, byte, word, ended, word_bytes}
 use Rattle.text.specs.declared.node.Node.{Node}

@@ -1,7 +1,6 @@
 -- Reading and writing texts undo each other, and a reader accepts just what the writer makes.
-use Rattle.std.specs.Prelude.{◌≡◌, ℕ, ◌<◌, ◌≤◌, true, List, [], ◌∷◌, ◌++◌, length, take}
+use Rattle.std.specs.Prelude.{◌≡◌, ℕ, ◌<◌, ◌≤◌, true, List, [], ◌++◌, length, take}
 use Rattle.octets.specs.Parse.{Read, Bad, Bytes}
-use Rattle.text.specs.declared.node.Node.{Node}
 use Rattle.text.specs.Nodes.{sound}
 use Rattle.text.specs.Format.{Assignment, text, alone, text_bytes}
 

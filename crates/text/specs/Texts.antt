@@ -1,5 +1,5 @@
 -- The nodes of a text, and what is left of a draft after each call.
-use Rattle.std.specs.Prelude.{◌≡◌, Bool, true, false, ◌&&◌, List, [], ◌∷◌, ◌++◌, length, vec_items, MatchBool, Option, MatchOption, nat_lt}
+use Rattle.std.specs.Prelude.{◌≡◌, Bool, ◌&&◌, List, [], ◌∷◌, ◌++◌, length, vec_items, MatchBool, Option, MatchOption, nat_lt}
 use Rattle.text.specs.declared.node.Node.{Node}
 use Rattle.text.specs.declared.texts.Text.{Text}
 use Rattle.text.specs.declared.texts.Draft.{Draft}

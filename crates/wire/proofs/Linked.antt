@@ -1,13 +1,13 @@
 -- What a reader of cables gives is sound.
-use Rattle.std.proofs.Common.{◌≡◌, ℕ, zero, suc, ◌+◌, ◌-◌, ◌<◌, ◌≤◌, Bool, true, false, cond, not, ◌&&◌, eqb, ltb, leb, ◌⊎◌, List, sym, refl, ap, ◌∙◌, subst, inl, inr, ⊎_elim, arith}
+use Rattle.std.proofs.Common.{◌≡◌, ℕ, zero, suc, ◌+◌, ◌-◌, ◌<◌, ◌≤◌, true, false, not, ◌&&◌, eqb, ltb, leb, List, sym, refl, ap, ◌∙◌, ⊎_elim, arith}
 use Rattle.std.proofs.lemmas.Bool.{cases_Bool, and_parts, eqb-true, ltb-true, leb-true, cond-true, cond-false, and_from, eq-eqb}
-use Rattle.octets.specs.Parse.{Got, Read, Bad, and_then, check, byte, word}
+use Rattle.octets.specs.Parse.{Got, Read, Bad, and_then, byte, word}
 use Rattle.octets.proofs.Yields.{Yields, yields_read, yields_check, yields_then, yields_any}
 use Rattle.wire.specs.declared.board.Wire.{Wire}
 use Rattle.wire.specs.declared.board.Wire.TheVariants.{Nothing, Outside, To}
 use Rattle.wire.specs.Numbers.{between, below}
 use Rattle.wire.specs.Wires.{Wires, bare, put, is_free, is_cable, leads, Link, There, Back, Ends, Apart, Sound}
-use Rattle.wire.specs.Layouts.{times, free_port, open_port, linked, cable, outside, wires, Layout, layout}
+use Rattle.wire.specs.Layouts.{times, free_port, open_port, linked, cable, outside, wires, layout}
 use Rattle.wire.specs.Laws.{GoodLayout, Cabled}
 use Rattle.wire.proofs.Boards.{put_here}
 

@@ -1,5 +1,5 @@
 -- What was written as a list of cables reads as the wires that it names.
-use Rattle.std.proofs.Common.{◌≡◌, ℕ, suc, ◌+◌, ◌*◌, ◌/◌, ◌%◌, ◌<◌, ◌≤◌, true, not, ltb, leb, List, [], ◌∷◌, ◌++◌, length, sym, refl, ap, ◌∙◌, arith}
+use Rattle.std.proofs.Common.{◌≡◌, ℕ, ◌+◌, ◌*◌, ◌/◌, ◌%◌, List, [], ◌∷◌, ◌++◌, length, refl, ap, ◌∙◌, arith}
 use Rattle.std.specs.List.{flat_map}
 use Rattle.std.proofs.lemmas.List.{append_assoc}
 use Rattle.std.proofs.lemmas.Bool.{lt-ltb, le-leb}
@@ -7,8 +7,8 @@ use Rattle.octets.specs.Parse.{Got, Read, and_then, word, word_bytes}
 use Rattle.wire.specs.declared.list.End.{End}
 use Rattle.wire.specs.declared.list.Cable.{Cable}
 use Rattle.wire.specs.declared.board.Wire.TheVariants.{Outside}
-use Rattle.wire.specs.Wires.{Wires, bare, put, is_free, is_cable}
-use Rattle.wire.specs.Layouts.{times, cable, outside, wires, layout}
+use Rattle.wire.specs.Wires.{Wires, bare, put}
+use Rattle.wire.specs.Layouts.{times, cable, outside, wires}
 use Rattle.wire.specs.Lists.{end_bytes, cable_bytes, list_bytes, plug, plugged, opened, Pluggable, AllPluggable, Openable, AllOpenable}
 use Rattle.wire.specs.Laws.{Listed}
 

@@ -1,7 +1,5 @@
 use Rattle.std.proofs.Common.{◌≡◌, codes, ap, ◌∙◌}
 use Rattle.std.specs.Str.{bytes_eq}
-use Rattle.std.proofs.lemmas.Slice.Eq.{bytes_eq-Decides}
-use Rattle.std.proofs.lemmas.Bool.Decides.{same_from_decides}
 use Rattle.console.specs.Words.{sort_of, is_option}
 use Rattle.console.proofs.arguments.word_of.Goals as goal
 

@@ -1,4 +1,4 @@
-use Rattle.std.proofs.Common.{◌≡◌, ◌-◌, length}
+use Rattle.std.proofs.Common.{◌≡◌, ◌-◌}
 use Rattle.maker.specs.Compare.{same_from}
 use Rattle.maker.proofs.compare.same_without.Given as goal
 

@@ -1,5 +1,5 @@
 use Rattle.std.proofs.Common.{⊎_elim, arith}
-use Rattle.maker.proofs.Ends.{end_none, First, end_first, end_dropped, end_kept}
+use Rattle.maker.proofs.Ends.{end_none, end_first, end_dropped, end_kept}
 use Rattle.maker.proofs.end.+end.Goals as goal
 
 pub returns-in_default : goal.returns-in_default

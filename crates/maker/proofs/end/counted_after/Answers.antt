@@ -1,4 +1,4 @@
-use Rattle.std.proofs.Common.{◌≤◌, length, ◌∙◌, arith, ltb-false, ltb-true, leb-false, leb-true}
+use Rattle.std.proofs.Common.{◌≤◌, length, arith, ltb-false, ltb-true, leb-false, leb-true}
 use Rattle.maker.proofs.Ends.{counted_at, length_behind}
 use Rattle.maker.proofs.end.counted_after.Goals as goal
 

@@ -1,4 +1,4 @@
-use Rattle.std.proofs.Common.{◌∙◌, arith, ltb-false, ltb-true, leb-false, leb-true}
+use Rattle.std.proofs.Common.{◌∙◌, arith}
 use Rattle.maker.proofs.Ends.{outs_none, outs_more}
 use Rattle.maker.proofs.end.outs_after.Goals as goal
 

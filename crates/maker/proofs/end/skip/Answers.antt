@@ -1,4 +1,4 @@
-use Rattle.std.proofs.Common.{length, ap, arith, ltb-false, ltb-true, leb-false, leb-true}
+use Rattle.std.proofs.Common.{length, ap, arith}
 use Rattle.std.proofs.lemmas.List.{length-drop, take_rest}
 use Rattle.maker.proofs.Ends.{skip_at}
 use Rattle.maker.proofs.end.skip.Goals as goal

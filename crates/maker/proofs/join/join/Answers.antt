@@ -1,4 +1,4 @@
-use Rattle.std.proofs.Common.{◌≡◌, ℕ, ◌+◌, ◌-◌, true, false, List, take, drop, sym, refl, ap, ◌∙◌, arith}
+use Rattle.std.proofs.Common.{◌≡◌, ℕ, ◌+◌, ◌-◌, true, false, List, take, drop, sym, ap, arith}
 use Rattle.maker.proofs.Joining.{same_tables, joined_same, joined_both, joined_over}
 use Rattle.maker.proofs.join.join.Goals as goal
 

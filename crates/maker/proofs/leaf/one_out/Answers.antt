@@ -1,4 +1,4 @@
-use Rattle.std.proofs.Common.{◌≡◌, ◌<◌, ◌≤◌, [], ◌++◌, length, take, sym, ap, ◌∙◌, arith}
+use Rattle.std.proofs.Common.{◌<◌, ◌++◌, length, take, ap, ◌∙◌, arith}
 use Rattle.octets.proofs.Appends.{appended_more}
 use Rattle.table.specs.Words.{setting_words}
 use Rattle.leaves.specs.Outs.{settings_of}

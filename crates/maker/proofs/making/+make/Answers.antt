@@ -1,4 +1,4 @@
-use Rattle.std.proofs.Common.{◌≡◌, ℕ, ◌+◌, ◌-◌, ◌*◌, ◌<◌, ◌≤◌, List, [], length, take, drop, Ok, Err, Result, sym, refl, ap, ◌∙◌, subst, arith, rules}
+use Rattle.std.proofs.Common.{◌≡◌, ℕ, ◌+◌, ◌-◌, ◌*◌, ◌≤◌, List, length, drop, Ok, Err, Result, sym, ap, ◌∙◌, subst, arith, rules}
 use Rattle.std.proofs.lemmas.List.{take_rest, length-drop}
 use Rattle.octets.specs.declared.fault.Fault.{Fault}
 use Rattle.packet.specs.Policy.{Policy}
@@ -10,7 +10,7 @@ use Rattle.meaning.specs.declared.evaluator.Evaluator.{Evaluator}
 use Rattle.meaning.specs.Evaluators.{text_of}
 use Rattle.prescribed.specs.Fit.{leaves}
 use Rattle.maker.specs.declared.made.Made.{Made}
-use Rattle.maker.specs.declared.made.Made.TheVariants.{Rules, Over}
+use Rattle.maker.specs.declared.made.Made.TheVariants.{Rules}
 use Rattle.leaves.specs.declared.pairs.Pair.{Pair}
 use Rattle.maker.specs.declared.known.Known.{Known}
 use Rattle.leaves.specs.Pairs.{wants_of}

@@ -1,4 +1,4 @@
-use Rattle.std.proofs.Common.{◌≡◌, ℕ, ◌-◌, ◌≤◌, List, length, take, drop, Ok, Err, sym, ap, ◌∙◌, subst, arith, length-take}
+use Rattle.std.proofs.Common.{◌≡◌, ℕ, ◌-◌, List, take, drop, Ok, ap, ◌∙◌, subst, arith, length-take}
 use Rattle.packet.specs.Policy.{Policy}
 use Rattle.text.specs.Texts.{nodes_of}
 use Rattle.text.specs.Trees.{meaning}
@@ -6,7 +6,7 @@ use Rattle.meaning.specs.declared.evaluator.Evaluator.{Evaluator}
 use Rattle.meaning.specs.Evaluators.{text_of}
 use Rattle.leaves.specs.Pairs.{wants_of}
 use Rattle.prescribed.specs.Table.{whole_table}
-use Rattle.maker.specs.declared.made.Made.TheVariants.{Rules, Over}
+use Rattle.maker.specs.declared.made.Made.TheVariants.{Rules}
 use Rattle.maker.specs.Knowing.{known_of}
 use Rattle.maker.specs.Making.{MadeOf}
 use Rattle.maker.proofs.Wholes.{first_task, whole_crowded, whole_over, whole_within, whole_front, whole_many, whole_table_lem}

@@ -1,4 +1,4 @@
-use Rattle.std.proofs.Common.{◌≡◌, ◌+◌, ◌-◌, ◌*◌, ◌<◌, length, get_or, Ok, vec_items, refl, ap, ⊎_elim, arith, rules}
+use Rattle.std.proofs.Common.{◌+◌, ◌-◌, ◌*◌, ◌<◌, length, get_or, Ok, vec_items, refl, ap, ⊎_elim, rules}
 use Rattle.std.proofs.lemmas.List.Elements.{AllWithin-set}
 use Rattle.packet.specs.Packet.{once}
 use Rattle.packet.specs.Policy.{each, some}

@@ -1,4 +1,4 @@
-use Rattle.std.proofs.Common.{◌≡◌, get_or, ap, arith}
+use Rattle.std.proofs.Common.{get_or, ap}
 use Rattle.text.specs.declared.node.Node.TheVariants.{Always}
 use Rattle.meaning.proofs.Telling.{stands}
 use Rattle.meaning.proofs.tests.node_at.Goals as goal

@@ -1,4 +1,4 @@
-use Rattle.std.proofs.Common.{◌≡◌, ◌<◌, length, vec_items, sym, ap, ◌∙◌, arith, rules}
+use Rattle.std.proofs.Common.{◌≡◌, ◌<◌, length, vec_items, ap, ◌∙◌, arith, rules}
 use Rattle.std.proofs.lemmas.List.Elements.{AllWithin-set}
 use Rattle.packet.specs.Policy.{holds}
 use Rattle.text.specs.Trees.{trees, test_at}

@@ -1,4 +1,4 @@
-use Rattle.std.proofs.Common.{◌≡◌, false, ◌&&◌, ◌||◌, eqb, get_or, sym, ap, ◌∙◌, ⊎_elim}
+use Rattle.std.proofs.Common.{false, ◌&&◌, ◌||◌, eqb, get_or, sym, ap, ◌∙◌, ⊎_elim}
 use Rattle.text.specs.declared.node.Node.TheVariants.{Always, Is, Both, Either, Not}
 use Rattle.meaning.proofs.Telling.{tells, told_by}
 use Rattle.meaning.proofs.tests.tells.Goals as goal

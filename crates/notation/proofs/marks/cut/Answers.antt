@@ -1,5 +1,5 @@
 -- Up to the first mark.
-use Rattle.std.proofs.Common.{◌≡◌, ◌+◌, ◌-◌, ◌<◌, [], length, take, drop, sym, ap, ◌∙◌, arith, length-drop}
+use Rattle.std.proofs.Common.{◌≡◌, ◌+◌, ◌-◌, ◌<◌, length, take, sym, ap, ◌∙◌, arith, length-drop}
 use Rattle.std.proofs.lemmas.List.{take_rest}
 use Rattle.notation.proofs.Cuts.{front_more, front_at, front_all, behind_past, behind_at, back_all}
 use Rattle.notation.proofs.marks.cut.Goals as goal

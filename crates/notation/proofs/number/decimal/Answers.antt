@@ -1,5 +1,5 @@
 -- One digit more, a byte that is no digit, and the end.
-use Rattle.std.proofs.Common.{◌≡◌, ◌<◌, true, false, leb, length, get_or, sym, ap, ◌∙◌, arith}
+use Rattle.std.proofs.Common.{◌≡◌, true, false, leb, length, get_or, sym, ◌∙◌, arith}
 use Rattle.std.proofs.lemmas.Bool.{and_from, le-leb, eqb-false}
 use Rattle.std.proofs.lemmas.Bool.Decides.{nat_tests}
 use Rattle.notation.specs.Numbers.{is_digit}

@@ -1,4 +1,4 @@
-use Rattle.std.proofs.Common.{◌/◌, ◌%◌, [], ◌∷◌, length, vec_items}
+use Rattle.std.proofs.Common.{◌∷◌, length, vec_items}
 use Rattle.std.specs.List.{flat_map}
 use Rattle.octets.specs.Parse.{word_bytes}
 use Rattle.wire.specs.Lists.{cable_bytes, end_bytes}

@@ -1,4 +1,4 @@
-use Rattle.std.proofs.Common.{◌≡◌, ◌*◌, sym, refl, ap, ◌∙◌, subst, arith}
+use Rattle.std.proofs.Common.{sym, refl, ap, ◌∙◌, arith}
 use Rattle.text.specs.Texts.{nodes_of}
 use Rattle.text.specs.Trees.{meaning}
 use Rattle.prescribed.specs.Fit.{product}

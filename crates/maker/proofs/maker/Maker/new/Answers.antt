@@ -1,4 +1,4 @@
-use Rattle.std.proofs.Common.{◌≡◌, sym, ap, ◌∙◌, subst}
+use Rattle.std.proofs.Common.{sym, ap, ◌∙◌}
 use Rattle.text.specs.Texts.{nodes_of}
 use Rattle.text.specs.Trees.{meaning}
 use Rattle.prescribed.specs.Table.{pairs_of, unnamed, same_want}

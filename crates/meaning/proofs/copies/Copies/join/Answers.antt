@@ -1,4 +1,4 @@
-use Rattle.std.proofs.Common.{◌≡◌, ◌++◌, sym, ap, ◌∙◌}
+use Rattle.std.proofs.Common.{◌++◌, sym, ap, ◌∙◌}
 use Rattle.packet.specs.Packet.{once}
 use Rattle.meaning.specs.Answers.{listing}
 use Rattle.meaning.proofs.Gathering.{join_more, join_full, join_all}

@@ -1,5 +1,5 @@
 -- A word, nothing between two blanks, and the end.
-use Rattle.std.proofs.Common.{◌≡◌, ℕ, ◌<◌, cond, List, ◌∷◌, length, drop, sym, ap, ◌∙◌, arith}
+use Rattle.std.proofs.Common.{◌<◌, length, drop, sym, ap, ◌∙◌, arith}
 use Rattle.std.proofs.lemmas.Bool.{eqb-true, eqb-false}
 use Rattle.notation.specs.declared.marks.Mark.TheVariants.{Blank}
 use Rattle.notation.specs.Marks.{behind}

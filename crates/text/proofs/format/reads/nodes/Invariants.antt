@@ -1,4 +1,4 @@
-use Rattle.std.proofs.Common.{◌≡◌, ◌-◌, ◌≤◌, [], length}
+use Rattle.std.proofs.Common.{◌≡◌, ◌-◌, [], length}
 use Rattle.octets.specs.Readers.{rest}
 use Rattle.text.specs.Format.{nodes}
 use Rattle.text.specs.Texts.{drafted}

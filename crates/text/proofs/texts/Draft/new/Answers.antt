@@ -1,4 +1,4 @@
-use Rattle.std.proofs.Common.{[], sym, refl, ap, ◌∙◌, arith}
+use Rattle.std.proofs.Common.{[], ap, arith}
 use Rattle.text.specs.Nodes.{sound}
 use Rattle.text.proofs.texts.Draft.new.Goals as goal
 

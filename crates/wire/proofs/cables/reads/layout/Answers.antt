@@ -1,4 +1,4 @@
-use Rattle.std.proofs.Common.{◌≡◌, sym}
+use Rattle.std.proofs.Common.{sym}
 use Rattle.octets.specs.Parse.{Read}
 use Rattle.octets.specs.Readers.{rest}
 use Rattle.wire.specs.Layouts.{wires}

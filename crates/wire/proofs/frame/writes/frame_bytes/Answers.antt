@@ -1,4 +1,4 @@
-use Rattle.std.proofs.Common.{[], ◌∷◌, ◌++◌, sym, ap, rules}
+use Rattle.std.proofs.Common.{◌∷◌, ◌++◌, sym, ap, rules}
 use Rattle.std.specs.List.{flat_map}
 use Rattle.octets.specs.Parse.{word_bytes}
 use Rattle.wire.proofs.Fields.{eight}
