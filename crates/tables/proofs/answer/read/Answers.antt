@@ -1,4 +1,4 @@
-use Rattle.std.proofs.Common.{◌≡◌, Bool, false, ◌⊎◌, None, Ok, Err, Result, sym, ap, ◌∙◌, subst, inr, MatchResult}
+use Rattle.std.proofs.Common.{◌≡◌, ◌⊎◌, None, Ok, Err, Result, sym, ap, ◌∙◌, inr, MatchResult}
 use Rattle.octets.specs.declared.fault.Fault.TheVariants.{Memory}
 use Rattle.octets.specs.Faults.{number}
 use Rattle.text.specs.declared.texts.Text.{Text}
