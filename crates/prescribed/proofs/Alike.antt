@@ -12,7 +12,7 @@ use Rattle.prescribed.specs.Table.{tested, tested_in, put_in}
 use Rattle.prescribed.specs.Alike.{SameTests, AlikeAt, Alike, TreatedAlike}
 
 -- lists related element by element: one after the other, and mapped
-each_join : {A : Type 0} (R : A → A → Type 0) (xs ys vs ws : List A) → AllZip R xs ys → AllZip R vs ws → AllZip R (xs ++ vs) (ys ++ ws)
+pub each_join : {A : Type 0} (R : A → A → Type 0) (xs ys vs ws : List A) → AllZip R xs ys → AllZip R vs ws → AllZip R (xs ++ vs) (ys ++ ws)
 each_join R [] [] vs ws h k = k
 each_join R [] (y ∷ ys) vs ws h k = absurd h
 each_join R (x ∷ xs) [] vs ws h k = absurd h

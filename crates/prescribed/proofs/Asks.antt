@@ -71,7 +71,7 @@ none_met known p h (r ∷ rs) k =
     (ap (λ l. meets_all l p) k.0.whole ∙ meets_all_append known k.0.more p ∙ ap (λ b. b && meets_all k.0.more p) h)
     (none_met known p h rs k.1)
 
-drop_field_append : (f : ℕ) (vs ws : List Want) → drop_field f (vs ++ ws) ≡ drop_field f vs ++ drop_field f ws
+pub drop_field_append : (f : ℕ) (vs ws : List Want) → drop_field f (vs ++ ws) ≡ drop_field f vs ++ drop_field f ws
 unfolding drop_field
 drop_field_append f [] ws = refl
 drop_field_append f (v ∷ vs) ws =

@@ -13,6 +13,12 @@ unfolding knowing
 length_knowing [] u = refl
 length_knowing (w ∷ ws) u = length_knowing ws (put w.at w.value u) ∙ length-set u w.at w.value
 
+-- one pair more
+pub knowing_push : (ws : List Want) (w : Want) (p : Packet) → knowing (ws ++ w ∷ []) p ≡ put w.at w.value (knowing ws p)
+unfolding knowing
+knowing_push [] w p = refl
+knowing_push (v ∷ vs) w p = knowing_push vs w (put v.at v.value p)
+
 -- what is not known stays as it is
 knowing_other : (g : ℕ) (ws : List Want) (u : Packet) → is_known g ws ≡ false → field g (knowing ws u) ≡ field g u
 unfolding knowing is_known
