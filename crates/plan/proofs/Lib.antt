@@ -1,0 +1,7 @@
+pub mod Small
+pub mod Placing
+pub mod Whole
+pub mod Changing
+pub mod Sizes
+pub mod Good
+pub mod Trips

@@ -1,0 +1,71 @@
+// Reading the bytes of a change.
+ghost use Rattle.std.specs.Prelude.{◌≡◌, [], length, IfOk};
+ghost use Rattle.octets.specs.Readers.{rest};
+ghost use Rattle.plan.specs.Changes as spec;
+ghost use Rattle.plan.specs.Laws.{GoodFor};
+ghost use Rattle.plan.specs.Views.{plan_of, slots_of, texts_of, Says};
+
+use crate::builder::Builder;
+use crate::plans::Plan;
+use octets::{Cursor, Fault};
+use std::alloc::Global;
+use text::{Draft, format};
+
+// One text. Its switch is tested before its nodes are read.
+fn one(heap: Global, c: &mut Cursor, builder: &mut Builder) -> Result<(), Fault>
+    ensures value { Says (λ _. slots_of builder.new) result (rest c.new) (spec.text (slots_of builder.old) (rest c.old)) }
+{
+    let draft = Draft::new(heap)?;
+    let switch = match c.byte() {
+        Ok(switch) => switch,
+        Err(fault) => return Err(fault),
+    };
+    match builder.claim(switch) {
+        Ok(()) => {}
+        Err(fault) => return Err(fault),
+    }
+    match format::read_nodes(c, draft) {
+        Ok(text) => builder.put(switch, text),
+        Err(fault) => Err(fault),
+    }
+}
+
+// Texts until the bytes end, of which there can be no more than switches.
+fn texts(heap: Global, c: &mut Cursor, builder: &mut Builder, switches: u8) -> Result<(), Fault>
+    ensures value { Says (λ _. slots_of builder.new) result (rest c.new) (spec.texts switches (slots_of builder.old) (rest c.old)) }
+{
+    for _i in 0..switches {
+        if c.is_done() {
+            return Ok(());
+        }
+        match one(heap, c, builder) {
+            Ok(()) => {}
+            Err(fault) => return Err(fault),
+        }
+    }
+    if c.is_done() {
+        Ok(())
+    } else {
+        Err(Fault::Range)
+    }
+}
+
+// The plan of a change for so many switches: its texts, and their tables.
+pub fn read(heap: Global, bytes: &[u8], switches: u8) -> Result<Plan, Fault>
+    ensures value { Says texts_of result [] (spec.change switches bytes.now) }
+    ensures good { IfOk result (λ p. GoodFor switches (plan_of p)) }
+{
+    let mut builder = Builder::new(heap, switches)?;
+    let mut c = Cursor::new(bytes);
+    let kind = match c.byte() {
+        Ok(kind) => kind,
+        Err(fault) => return Err(fault),
+    };
+    if kind != 66 {
+        return Err(Fault::Form);
+    }
+    match texts(heap, &mut c, &mut builder, switches) {
+        Ok(()) => builder.finish(),
+        Err(fault) => Err(fault),
+    }
+}

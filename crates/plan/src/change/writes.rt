@@ -1,0 +1,56 @@
+// Writing a change.
+ghost use Rattle.std.specs.Prelude.{◌≡◌, ◌≤◌, [], ◌++◌, map, length, take, vec_len, MatchResult};
+ghost use Rattle.octets.specs.Parse.{Read};
+ghost use Rattle.plan.specs.Changes as spec;
+ghost use Rattle.plan.specs.Laws.{ReadsBack};
+ghost use Rattle.plan.specs.Parts.{text_in};
+ghost use Rattle.plan.specs.Views.{texts_of};
+
+use crate::part::Part;
+use crate::plans::Plan;
+use std::alloc::AllocError;
+use text::format;
+
+// The texts of the parts, in the order of the switches. Where no memory is left, some of them.
+fn texts(out: &mut Vec<u8>, parts: &[Part]) -> Result<(), AllocError>
+    requires few { length parts.now ≤ 255 }
+    ensures cases { MatchResult result
+        (λ _. out.new.items ≡ out.old.items ++ spec.texts_bytes 0 (map text_in parts.now))
+        (λ _. take (vec_len out.old) out.new.items ≡ out.old.items) }
+{
+    for i in 0..parts.len() {
+        match format::write(out, i as u8, parts[i].text()) {
+            Ok(()) => {}
+            Err(e) => return Err(e),
+        }
+    }
+    Ok(())
+}
+
+// Puts the bytes of a change with this plan behind what is there, or changes nothing where no memory is left.
+pub fn write(out: &mut Vec<u8>, plan: &Plan) -> Result<(), AllocError>
+    ensures cases { MatchResult result
+        (λ _. out.new.items ≡ out.old.items ++ spec.change_bytes (texts_of plan.now))
+        (λ _. out.new.items ≡ out.old.items) }
+    ensures back { spec.change (length (texts_of plan.now)) (spec.change_bytes (texts_of plan.now)) ≡ Read (texts_of plan.now) [] }
+{
+    let start = out.len();
+    match out.extend_from_slice(&[66]) {
+        Ok(()) => {}
+        Err(e) => return Err(e),
+    }
+    match texts(out, plan.parts.as_slice()) {
+        Ok(()) => Ok(()),
+        Err(e) => {
+            out.truncate(start);
+            Err(e)
+        }
+    }
+}
+
+// What was written reads as the same texts.
+pub fn change_stands() -> u8
+    ensures reads_back { ReadsBack }
+{
+    0
+}
