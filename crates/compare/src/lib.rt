@@ -1,0 +1,10 @@
+// Two texts compared.
+#![tactic(auto)]
+
+pub mod answer;
+mod sets;
+mod tables;
+mod texts;
+
+pub use answer::{Compared, Difference};
+pub use texts::compare;

@@ -1,0 +1,38 @@
+// Two texts: whether they do the same, and if not, on which packet.
+ghost use Rattle.std.specs.Result.{MatchResult};
+ghost use Rattle.text.specs.Texts.{nodes_of};
+ghost use Rattle.text.specs.Trees.{meaning};
+ghost use Rattle.compare.specs.Compared.{Answers, NotCompared};
+
+use crate::answer::{Compared, Difference};
+use crate::sets::listed;
+use crate::tables::{difference, table_of};
+use octets::Fault;
+use std::alloc::Global;
+use table::Table;
+use text::Text;
+
+pub fn compare(heap: Global, first: Text, second: Text) -> Result<Compared, Fault>
+    ensures cases { MatchResult result (Answers (meaning (nodes_of first)) (meaning (nodes_of second))) (NotCompared (meaning (nodes_of first)) (meaning (nodes_of second))) }
+{
+    let one = match table_of(heap, first) {
+        Ok(words) => words,
+        Err(fault) => return Err(fault),
+    };
+    let two = match table_of(heap, second) {
+        Ok(words) => words,
+        Err(fault) => return Err(fault),
+    };
+    let first = Table::new(one.as_slice());
+    let second = Table::new(two.as_slice());
+    let Some(packet) = difference(heap, first, second)? else {
+        return Ok(Compared::Same);
+    };
+    let ours = listed(heap, first.send(packet).as_slice())?;
+    let theirs = listed(heap, second.send(packet).as_slice())?;
+    Ok(Compared::Differs(Difference {
+        packet,
+        first: ours,
+        second: theirs,
+    }))
+}

@@ -1,0 +1,10 @@
+pub mod Applied
+pub mod Building
+pub mod Alikes
+pub mod Inserting
+pub mod Giving
+pub mod Agreeing
+pub mod Marking
+pub mod Moving
+pub mod Searching
+pub mod Tabling
