@@ -1,7 +1,7 @@
 -- The pairs of the marked nodes, put in order one by one, are those that the text tests, and their fields are 0 to 7.
 use Rattle.std.proofs.Common.{◌≡◌, ℕ, ◌+◌, ◌<◌, ◌≤◌, Bool, true, false, cond, List, [], ◌∷◌, ◌++◌, length, get_or, take, vec_items, sym, refl, ap, ◌∙◌, subst, arith}
 use mathlib.Core.List.{Memᴰ}
-use Rattle.std.specs.List.{AllWithin, AllByRecursion as All}
+use Rattle.std.specs.List.{AllWithin, AllByRecursion}
 use Rattle.std.proofs.ByRecursion.{All-append, All-get_or, All-map, all_from_every}
 use Rattle.std.proofs.lemmas.List.{append-nil, get_or-map, length-map, take_all}
 use Rattle.std.proofs.lemmas.Bool.{and_parts, leb-true}
@@ -65,7 +65,7 @@ module _ (row : List Bool) (ns : List Node) where
       ∙ rising_alike less_want want_ordered (marked test_of row ns) (tested_in (meaning ns)) (same_names (marked test_of row ns) (tested_in (meaning ns)) u.tested)
 
 -- fields of sound nodes are 0 to 7
-tests_low : (b : Bool) (done : List Node) (n : Node) → fits done n ≡ true → All (λ w. w.at ≤ 7) (cond b (test_of n) [])
+tests_low : (b : Bool) (done : List Node) (n : Node) → fits done n ≡ true → AllByRecursion (λ w. w.at ≤ 7) (cond b (test_of n) [])
 tests_low false done n h = tt
 tests_low true done Always h = tt
 tests_low true done (Is f x) h = (leb-true f 7 h, tt)
@@ -77,7 +77,7 @@ tests_low true done (Put f x) h = tt
 tests_low true done (And a c) h = tt
 tests_low true done (Then a c) h = tt
 
-marked_low : (row : List Bool) (done ns : List Node) → sound done ns ≡ true → All (λ w. w.at ≤ 7) (marked test_of row ns)
+marked_low : (row : List Bool) (done ns : List Node) → sound done ns ≡ true → AllByRecursion (λ w. w.at ≤ 7) (marked test_of row ns)
 unfolding marked sound
 marked_low [] done ns h = tt
 marked_low (b ∷ row) done [] h = tt
@@ -87,18 +87,18 @@ marked_low (b ∷ row) done (n ∷ ns) h =
 
 pub pairs_low : (row : List Bool) (ns ms : List Node) (xs : List Pair) (n : ℕ) → sound [] ms ≡ true → ms ≡ ns → n ≡ length xs → wants_of xs ≡ rising less_want (marked test_of row ns) → AllWithin (λ p. p.field ≤ 7) xs 0 n
 pairs_low row ns ms xs n so e long is =
-    let low = subst (λ l. All (λ w. w.at ≤ 7) l) (sym is) (rising_all less_want (λ w. w.at ≤ 7) (marked test_of row ns) (subst (λ l. All (λ w. w.at ≤ 7) (marked test_of row l)) e (marked_low row [] ms so))) in
+    let low = subst (λ l. AllByRecursion (λ w. w.at ≤ 7) l) (sym is) (rising_all less_want (λ w. w.at ≤ 7) (marked test_of row ns) (subst (λ l. AllByRecursion (λ w. w.at ≤ 7) (marked test_of row l)) e (marked_low row [] ms so))) in
     λ k d z lt. subst (λ w. w.at ≤ 7) (get_or-map want_of xs k d (want_of d) (omega arith)) (All-get_or (λ w. w.at ≤ 7) (wants_of xs) k (want_of d) (omega (arith, length-map xs want_of)) low)
 
 -- so the fields that the text tests are 0 to 7
-pub tested_low : (s : Pairs) (a : Policy) → pairs_in s ≡ pairs_of a → All (λ w. w.at < 8) (tested_in a)
+pub tested_low : (s : Pairs) (a : Policy) → pairs_in s ≡ pairs_of a → AllByRecursion (λ w. w.at < 8) (tested_in a)
 tested_low s a e = from_members (tested_in a) (λ w m. all_member (λ v. v.at < 8) w (pairs_in s) low (subst (λ l. Memᴰ w l) (sym e) ((pairs_tested a w).1 m)))
   where
-    low : All (λ w. w.at < 8) (pairs_in s)
+    low : AllByRecursion (λ w. w.at < 8) (pairs_in s)
     low =
         All-map (λ w. w.at < 8) want_of (vec_items s.items)
         (all_from_every (λ p. p.field < 8) (vec_items s.items) (λ k d z lt. omega (arith, s.low k d z (omega arith))))
 
-    from_members : (ws : List Want) → ((w : Want) → Memᴰ w ws → w.at < 8) → All (λ w. w.at < 8) ws
+    from_members : (ws : List Want) → ((w : Want) → Memᴰ w ws → w.at < 8) → AllByRecursion (λ w. w.at < 8) ws
     from_members [] h = tt
     from_members (w ∷ ws) h = (h w (Memᴰ.head refl), from_members ws (λ v m. h v (Memᴰ.tail m)))

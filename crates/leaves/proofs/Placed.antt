@@ -1,7 +1,7 @@
 -- An element is inserted at its place, and a rising list has one more element.
 use Rattle.std.proofs.Common.{◌≡◌, ℕ, zero, suc, ◌+◌, ◌<◌, ◌≤◌, Bool, true, false, List, [], ◌∷◌, ◌++◌, map, length, get_or, take, drop, sym, refl, ap, ◌∙◌, subst, ⊎_elim, arith}
 use mathlib.Core.List.Memᴰ
-use Rattle.std.specs.List.{insert as inserted, AllByRecursion as All}
+use Rattle.std.specs.List.{insert as inserted, AllByRecursion}
 use Rattle.std.proofs.ByRecursion.{All-more}
 use Rattle.std.proofs.lemmas.List.{drop_more, drop_all, take-append-drop, take-map, drop-map, map-append, length-map, get_or-map}
 use Rattle.std.proofs.lemmas.Bool.{cases_Bool, both_ways, cond-true, cond-false}
@@ -11,16 +11,16 @@ use Rattle.prescribed.proofs.Rising.{Ordered, rising_same, rising_rises, rises_o
 use Rattle.leaves.specs.Place.{Place}
 
 -- the search for the place of x, which has come to place i
-module _ {A : Type 0} (less : A → A → Bool) (x : A) (ys : List A) (i : ℕ) (front : All (λ y. less y x ≡ true) (take i ys)) where
+module _ {A : Type 0} (less : A → A → Bool) (x : A) (ys : List A) (i : ℕ) (front : AllByRecursion (λ y. less y x ≡ true) (take i ys)) where
   module _ (y : A) (lt : i < length ys) (is : (d : A) → get_or ys i d ≡ y) where
     pub place_here : less y x ≡ false → Place less x ys i
     place_here h = record { within = omega arith; front = front; stop = λ d l. ap (λ z. less z x) (is d) ∙ h }
 
-    pub place_more : less y x ≡ true → All (λ z. less z x ≡ true) (take (i + 1) ys)
+    pub place_more : less y x ≡ true → AllByRecursion (λ z. less z x ≡ true) (take (i + 1) ys)
     place_more h = All-more (λ z. less z x ≡ true) ys i y lt front (ap (λ z. less z x) (is y) ∙ h)
 
   pub place_end : (n : ℕ) → i ≡ n → length ys ≡ n → Place less x ys n
-  place_end n e l = record { within = omega arith; front = subst (λ k. All (λ y. less y x ≡ true) (take k ys)) e front; stop = λ d lt. absurd (omega arith) }
+  place_end n e l = record { within = omega arith; front = subst (λ k. AllByRecursion (λ y. less y x ≡ true) (take k ys)) e front; stop = λ d lt. absurd (omega arith) }
 
 module _ {A : Type 0} (less : A → A → Bool) (order : Ordered less) where
   not_back : (x y : A) → less y x ≡ true → less x y ≡ false
@@ -39,7 +39,7 @@ module _ {A : Type 0} (less : A → A → Bool) (order : Ordered less) where
   unfolding insert
   same x y ys h k = cond-false (less x y) _ _ h ∙ cond-false (less y x) _ _ k
 
-  to_place : (x : A) (ys : List A) (r : ℕ) → r ≤ length ys → All (λ y. less y x ≡ true) (take r ys) → insert less x ys ≡ take r ys ++ insert less x (drop r ys)
+  to_place : (x : A) (ys : List A) (r : ℕ) → r ≤ length ys → AllByRecursion (λ y. less y x ≡ true) (take r ys) → insert less x ys ≡ take r ys ++ insert less x (drop r ys)
   to_place x ys zero le h = refl
   to_place x [] (suc r) le h = absurd (omega arith)
   to_place x (y ∷ ys) (suc r) le h = passed x y ys h.0 ∙ ap (λ l. y ∷ l) (to_place x ys r (omega arith) h.1)

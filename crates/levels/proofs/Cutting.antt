@@ -1,7 +1,7 @@
 -- Where what a policy does rests on no field that is still to be asked for, the table is one rule.
 use Rattle.std.proofs.Common.{◌≡◌, ℕ, ◌<◌, ◌≤◌, true, false, ◌||◌, eqb, ltb, List, [], ◌∷◌, ◌++◌, map, length, sym, refl, ap, ◌∙◌, subst, ⊎_elim, arith}
 use mathlib.Core.List.Memᴰ
-use Rattle.std.specs.List.{AllByRecursion as All}
+use Rattle.std.specs.List.{AllByRecursion}
 use Rattle.std.proofs.lemmas.List.{append-nil, get_or-set_same, get_or-set_other}
 use Rattle.std.proofs.lemmas.Bool.{cases_Bool, cases_eq, both_ways, or_parts, or_from, cond-true, cond-false, eq-eqb}
 use Rattle.packet.specs.Packet.{Packet, field, put}
@@ -81,7 +81,7 @@ module _ (ws : List Want) (a : Policy) (n : ℕ) (p : Packet) (eight : length p 
   clear_more known w low has too =
       subst (Clear ws a) (sym (knowing_push known w (unnamed a))) (clear_put ws a (sample a known) w.at w.value (length_sample a known) low has too)
 
-  pub one_rule : (rest known : List Want) → All (Beyond ws n) rest → Agree n p (sample a known) → Clear ws a (sample a known) → OneRule a rest known (ruled known)
+  pub one_rule : (rest known : List Want) → AllByRecursion (Beyond ws n) rest → Agree n p (sample a known) → Clear ws a (sample a known) → OneRule a rest known (ruled known)
   unfolding table_from crowded long
   one_rule [] known far agree too = record { table = ap (λ o. record { wants = known; outs = o } ∷ []) (outs_same known agree too); few = few_too known agree too; short = refl }
   one_rule (w ∷ rest) known far agree too =

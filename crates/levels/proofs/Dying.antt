@@ -1,6 +1,6 @@
 -- That a policy has no copies, by what is known of its parts.
 use Rattle.std.proofs.Common.{◌≡◌, ℕ, ◌≤◌, max, ◌||◌, ltb, List, [], ◌∷◌, ◌++◌, length, sym, refl, ap, ◌∙◌, subst, arith}
-use Rattle.std.specs.List.{AllByRecursion as All}
+use Rattle.std.specs.List.{AllByRecursion}
 use Rattle.std.proofs.lemmas.Bool.{true≢false, cond-false, leb-false, lt-leb}
 use Rattle.packet.specs.Packet.{Packet, once}
 use Rattle.packet.specs.Policy.{Test, holds, Policy, keep, and, then, each, copies, some, overfull}
@@ -45,5 +45,5 @@ module _ (ws : List Want) (p q : Packet) where
       record {
         none = none;
         few = λ i. ltb 16 (length (once (none i))) || (dead.few i || some (overfull b) (dead.none i));
-        rests = rests_then ws p q a b (level_of e) dead.rests (subst (All (λ t. Rests ws b (level_of e) p t)) (sym dead.none) tt);
+        rests = rests_then ws p q a b (level_of e) dead.rests (subst (AllByRecursion (λ t. Rests ws b (level_of e) p t)) (sym dead.none) tt);
       }

@@ -2,7 +2,7 @@
 use Rattle.std.proofs.Common.{◌≡◌, ℕ, ◌+◌, ◌<◌, ◌≤◌, true, false, cond, ◌||◌, eqb, ltb, List, [], ◌∷◌, ◌++◌, sym, refl, ap, ◌∙◌, subst, ⊎_elim, arith}
 use mathlib.Core.List.Memᴰ
 use mathlib.Core.List.{Memᴰ}
-use Rattle.std.specs.List.{AllZip, AllByRecursion as All}
+use Rattle.std.specs.List.{AllZip, AllByRecursion}
 use Rattle.std.proofs.lemmas.Bool.{cases_Bool, ne_eqb, cond-true}
 use Rattle.packet.specs.Packet.{Packet, field, once}
 use Rattle.packet.specs.Policy.{Test, holds, Policy, keep, puts, and, then, each, copies, some, overfull}
@@ -70,7 +70,7 @@ module _ (ws : List Want) (p q : Packet) where
 
 -- each packet of a list goes through a policy
 module _ (ws : List Want) (b : Policy) (n : ℕ) (p r : Packet) (agree : Agree n p r) (c : Clear ws b p) (d : Clear ws b r) where
-  pub each_rests : (qs ss : List Packet) → All (λ q. Rests ws b n p q) qs → AllZip (Like p r) qs ss → AllZip (Like p r) (each (copies b) qs) (each (copies b) ss)
+  pub each_rests : (qs ss : List Packet) → AllByRecursion (λ q. Rests ws b n p q) qs → AllZip (Like p r) qs ss → AllZip (Like p r) (each (copies b) qs) (each (copies b) ss)
   unfolding each
   each_rests [] [] h k = k
   each_rests [] (s ∷ ss) h k = absurd k
@@ -78,7 +78,7 @@ module _ (ws : List Want) (b : Policy) (n : ℕ) (p r : Packet) (agree : Agree n
   each_rests (q ∷ qs) (s ∷ ss) h k =
       each_join (Like p r) (copies b q) (copies b s) (each (copies b) qs) (each (copies b) ss) (h.0 r s agree c d k.0).each (each_rests qs ss h.1 k.1)
 
-  some_rests : (qs ss : List Packet) → All (λ q. Rests ws b n p q) qs → AllZip (Like p r) qs ss → some (overfull b) qs ≡ some (overfull b) ss
+  some_rests : (qs ss : List Packet) → AllByRecursion (λ q. Rests ws b n p q) qs → AllZip (Like p r) qs ss → some (overfull b) qs ≡ some (overfull b) ss
   unfolding some
   some_rests [] [] h k = refl
   some_rests [] (s ∷ ss) h k = absurd k
@@ -86,14 +86,14 @@ module _ (ws : List Want) (b : Policy) (n : ℕ) (p r : Packet) (agree : Agree n
   some_rests (q ∷ qs) (s ∷ ss) h k = λ i. (h.0 r s agree c d k.0).full i || some_rests qs ss h.1 k.1 i
 
 -- what holds of each packet once holds of all
-pub all_once : (P : Packet → Type 0) (ps : List Packet) → All P (once ps) → All P ps
+pub all_once : (P : Packet → Type 0) (ps : List Packet) → AllByRecursion P (once ps) → AllByRecursion P ps
 all_once P ps h = all_of ps (λ q m. all_member P q (once ps) h ((once_same_set ps q).1 m))
   where
-    all_of : (qs : List Packet) → ((q : Packet) → Memᴰ q qs → P q) → All P qs
+    all_of : (qs : List Packet) → ((q : Packet) → Memᴰ q qs → P q) → AllByRecursion P qs
     all_of [] k = tt
     all_of (q ∷ qs) k = (k q (Memᴰ.head refl), all_of qs (λ x m. k x (Memᴰ.tail m)))
 
-pub rests_then : (ws : List Want) (p q : Packet) (a b : Policy) (n : ℕ) → Rests ws a n p q → All (λ t. Rests ws b n p t) (copies a q) → Rests ws (then a b) n p q
+pub rests_then : (ws : List Want) (p q : Packet) (a b : Policy) (n : ℕ) → Rests ws a n p q → AllByRecursion (λ t. Rests ws b n p t) (copies a q) → Rests ws (then a b) n p q
 unfolding copies overfull
 rests_then ws p q a b n h g r s agree c d k =
     let one = h r s agree (clear_first ws a b p c) (clear_first ws a b r d) k in

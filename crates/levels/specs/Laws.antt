@@ -1,6 +1,6 @@
 -- What it means that something rests on the first fields: leaves that agree on them are alike, and one rule stands for them.
 use Rattle.std.specs.Prelude.{◌≡◌, ℕ, false, List}
-use Rattle.std.specs.List.{AllByRecursion as All}
+use Rattle.std.specs.List.{AllByRecursion}
 use Rattle.packet.specs.Policy.{Policy, overfull}
 use Rattle.packet.specs.Table.{Want}
 use Rattle.prescribed.specs.Table.{sample, leaf}
@@ -19,5 +19,5 @@ LeavesAlike =
 abbrev pub OneRuleBelow : Type 0
 OneRuleBelow =
     (ws : List Want) (a : Policy) (n : ℕ) (rest known : List Want) → Clear ws a (sample a known) →
-    Rests ws a n (sample a known) (sample a known) → overfull a (sample a known) ≡ false → All (Beyond ws n) rest →
+    Rests ws a n (sample a known) (sample a known) → overfull a (sample a known) ≡ false → AllByRecursion (Beyond ws n) rest →
     OneRule a rest known (leaf a known)

@@ -1,6 +1,6 @@
 -- The rule of a leaf, in words and within the limits.
 use Rattle.std.proofs.Common.{◌≡◌, ℕ, suc, ◌+◌, ◌≤◌, true, false, eqb, List, [], ◌∷◌, map, length, take, Ok, sym, refl, ap, ◌∙◌, arith}
-use Rattle.std.specs.List.{AllByRecursion as All}
+use Rattle.std.specs.List.{AllByRecursion}
 use Rattle.std.proofs.lemmas.List.{append-nil, length-map, length-take}
 use Rattle.std.proofs.lemmas.Bool.{cond_both}
 use Rattle.packet.specs.Packet.{Packet}
@@ -16,7 +16,7 @@ use Rattle.table.specs.Words.{rule_words, encode}
 use Rattle.maker.specs.declared.made.Made.TheVariants.{Rules}
 use Rattle.maker.specs.Making.{MadeOf}
 
-each_from : {A : Type 0} (P : A → Type 0) (xs : List A) → All P xs → Each P xs
+each_from : {A : Type 0} (P : A → Type 0) (xs : List A) → AllByRecursion P xs → Each P xs
 each_from P [] h = tt
 each_from P (x ∷ xs) h = (h.0, each_from P xs h.1)
 
@@ -45,7 +45,7 @@ low_changes f n (x ∷ xs) (y ∷ ys) le =
 good_changes : (p q : Packet) → length p ≡ 8 → GoodOut (changes 0 p q)
 good_changes p q eight = record { few = omega (arith, few_changes 0 p q); settings = low_changes 0 7 p q (omega arith) }
 
-all_changes : (p : Packet) (qs : List Packet) → length p ≡ 8 → All GoodOut (map (changes 0 p) qs)
+all_changes : (p : Packet) (qs : List Packet) → length p ≡ 8 → AllByRecursion GoodOut (map (changes 0 p) qs)
 all_changes p [] eight = tt
 all_changes p (q ∷ qs) eight = (good_changes p q eight, all_changes p qs eight)
 

@@ -1,6 +1,6 @@
 -- From the recursion to a whole text: where it begins, and what its answer says of the text.
 use Rattle.std.proofs.Common.{◌≡◌, ℕ, zero, suc, ◌+◌, ◌*◌, ◌<◌, ◌≤◌, true, cond, ◌||◌, eqb, ltb, List, [], ◌∷◌, ◌++◌, length, take, drop, Ok, Err, sym, ap, ◌∙◌, subst, ⊎_elim, arith}
-use Rattle.std.specs.List.{AllWithin, AllByRecursion as All}
+use Rattle.std.specs.List.{AllWithin, AllByRecursion}
 use Rattle.std.proofs.lemmas.List.{take-take, get_or_past}
 use Rattle.std.proofs.lemmas.Bool.{cond-true, cond-false, or_left, or_right, or_from, or_cases, and_parts, ltb-true, eqb-true, le-ltb, lt-ltb, cases_lt}
 use Rattle.octets.specs.declared.fault.Fault.{Fault}
@@ -27,7 +27,7 @@ use Rattle.maker.specs.Whole as whole
 use Rattle.maker.proofs.Ends.{trim_part, trim_front}
 
 -- pairs that are low
-all_low : (ps : List Pair) → AllWithin (λ p. p.field ≤ 7) ps 0 (length ps) → All (λ w. w.at < 8) (wants_of ps)
+all_low : (ps : List Pair) → AllWithin (λ p. p.field ≤ 7) ps 0 (length ps) → AllByRecursion (λ w. w.at < 8) (wants_of ps)
 all_low [] h = tt
 all_low (p ∷ ps) h = (omega (arith, h 0 p (omega arith) (omega arith)), all_low ps (λ k d l u. h (suc k) d (omega arith) (omega arith)))
 

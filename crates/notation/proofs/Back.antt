@@ -1,6 +1,6 @@
 -- What is written is read back.
 use Rattle.std.proofs.Common.{◌≡◌, ℕ, ◌+◌, ◌^◌, ◌<◌, ◌≤◌, true, ◌&&◌, leb, List, [], ◌∷◌, ◌++◌, map, length, Some, decimal, sym, refl, ap, ◌∙◌, arith}
-use Rattle.std.specs.List.{AllByRecursion as All}
+use Rattle.std.specs.List.{AllByRecursion}
 use Rattle.std.proofs.lemmas.List.{append-nil, append_assoc, length_push, length-append}
 use Rattle.std.proofs.lemmas.Bool.{and_parts, leb-true, le-leb}
 use Rattle.text.specs.declared.node.Node.{Node}
@@ -79,12 +79,12 @@ kind_back s (node.Put f x) few h l = ap (λ g. and_then (from (λ p. node.Put p.
 kind_back s (node.And a b) few h l = ap (λ g. and_then (from (λ p. node.And p.0 p.1) g) ended) (two_back Policy s a b few h)
 kind_back s (node.Then a b) few h l = ap (λ g. and_then (from (λ p. node.Then p.0 p.1) g) ended) (two_back Policy s a b few h)
 
-two_small : (want : Sort) (ns : List Node) (a b : ℕ) → length ns < 512 → (fitting want ns a && fitting want ns b) ≡ true → All (λ k. k < 2 ^ 64) (a ∷ (b ∷ []))
+two_small : (want : Sort) (ns : List Node) (a b : ℕ) → length ns < 512 → (fitting want ns a && fitting want ns b) ≡ true → AllByRecursion (λ k. k < 2 ^ 64) (a ∷ (b ∷ []))
 two_small want ns a b few h =
     let p = and_parts (fitting want ns a) (fitting want ns b) h in
     (operand_small want ns a few p.0, (operand_small want ns b few p.1, tt))
 
-numbers_small : (ns : List Node) (n : Node) → length ns < 512 → fits ns n ≡ true → Short n → All (λ k. k < 2 ^ 64) (numbers_in n)
+numbers_small : (ns : List Node) (n : Node) → length ns < 512 → fits ns n ≡ true → Short n → AllByRecursion (λ k. k < 2 ^ 64) (numbers_in n)
 numbers_small ns node.Always few h l = tt
 numbers_small ns (node.Is f x) few h l = (omega (arith, leb-true f 7 h), (omega arith, tt))
 numbers_small ns (node.Both a b) few h l = two_small Test ns a b few h
@@ -117,7 +117,7 @@ line_back s n few h l =
     ∙ ap (λ ws. and_then (node_in s ws) (λ t r. Read t [])) (words_spaced w ns word.0 word.1 small)
     ∙ ap (λ g. and_then g (λ t r. Read t [])) (sym (node_back s n few h l))
 
-lines_back : (k : ℕ) (s : Sofar) (ns : List Node) → sound s.nodes ns ≡ true → All Short ns → length s.nodes + length ns ≤ 512 → lines_in k s (parts Newline (written_nodes ns)) ≡ finished (s.nodes ++ ns)
+lines_back : (k : ℕ) (s : Sofar) (ns : List Node) → sound s.nodes ns ≡ true → AllByRecursion Short ns → length s.nodes + length ns ≤ 512 → lines_in k s (parts Newline (written_nodes ns)) ≡ finished (s.nodes ++ ns)
 unfolding lines_in parts sound written_nodes
 lines_back k s [] h l few = ap finished (sym (append-nil s.nodes))
 lines_back k s (n ∷ ns) h l few =

@@ -1,6 +1,6 @@
 -- Bytes without a mark, and how what is written splits again into lines and words.
 use Rattle.std.proofs.Common.{◌≡◌, ℕ, ◌+◌, ◌-◌, ◌*◌, ◌/◌, ◌%◌, ◌^◌, ◌<◌, ◌≤◌, Bool, true, false, cond, ◌&&◌, leb, List, [], ◌∷◌, ◌++◌, map, length, Some, None, decimal, filter, refl, ap, ◌∙◌, arith}
-use Rattle.std.specs.List.{AllByRecursion as All}
+use Rattle.std.specs.List.{AllByRecursion}
 use Rattle.std.proofs.lemmas.Fmt.{decimal_by_steps}
 use Rattle.std.proofs.ByRecursion.{All-append, All-weaker}
 use Rattle.std.proofs.lemmas.List.{append-nil, length-append}
@@ -16,7 +16,7 @@ use Rattle.notation.specs.Words.{Word, some, words_of}
 use Rattle.notation.specs.Writing.{spaced}
 
 abbrev pub Clear : Mark → List ℕ → Type 0
-Clear m bs = All (λ b. marks m b ≡ false) bs
+Clear m bs = AllByRecursion (λ b. marks m b ≡ false) bs
 
 -- a first part that a mark ends, and a last one
 pub parts_first : (m : Mark) (p : List ℕ) (b : ℕ) (rest : List ℕ) → Clear m p → marks m b ≡ true → parts m (p ++ b ∷ rest) ≡ p ∷ parts m rest
@@ -39,7 +39,7 @@ before_clear m (x ∷ p) h = rw h.0 (ap (λ l. x ∷ l) (before_clear m p h.1))
 abbrev pub Solid : ℕ → Type 0
 Solid b = (48 ≤ b) × (b ≡ 59 → ⊥)
 
-pub solid_clear : (m : Mark) (bs : List ℕ) → All Solid bs → Clear m bs
+pub solid_clear : (m : Mark) (bs : List ℕ) → AllByRecursion Solid bs → Clear m bs
 solid_clear m bs = All-weaker Solid (λ b. marks m b ≡ false) (λ b h. at m b h) bs
   where
     at : (m : Mark) (b : ℕ) → Solid b → marks m b ≡ false
@@ -55,12 +55,12 @@ letters : List ℕ → Bool
 letters [] = true
 letters (b ∷ bs) = leb 97 b && letters bs
 
-letters_solid : (bs : List ℕ) → letters bs ≡ true → All Solid bs
+letters_solid : (bs : List ℕ) → letters bs ≡ true → AllByRecursion Solid bs
 unfolding letters
 letters_solid [] h = tt
 letters_solid (b ∷ bs) h = let p = and_parts (leb 97 b) (letters bs) h in (letter b p.0, letters_solid bs p.1)
 
-pub word_solid : (k : Kind) → All Solid (word_of k) × (0 < length (word_of k))
+pub word_solid : (k : Kind) → AllByRecursion Solid (word_of k) × (0 < length (word_of k))
 unfolding letters
 word_solid Always = (letters_solid (word_of Always) refl, omega arith)
 word_solid Is = (letters_solid (word_of Is) refl, omega arith)
@@ -83,7 +83,7 @@ goes_push a m d (b ∷ bs) e h =
 
 -- a number is written by one or more digits, which read as that number
 pub record Decimal (n : ℕ) (ds : List ℕ) : Type 0 where
-  pub solid : All Solid ds
+  pub solid : AllByRecursion Solid ds
   pub more : 0 < length ds
   pub reads : goes_on 0 ds ≡ Some n
 
@@ -111,7 +111,7 @@ some_long [] h = absurd (omega arith)
 some_long (b ∷ bs) h = refl
 
 -- a word, and numbers behind it
-pub words_spaced : (w : Word) (ns : List ℕ) → All Solid w → 0 < length w → All (λ n. n < 2 ^ 64) ns → words_of (w ++ spaced ns) ≡ w ∷ map decimal ns
+pub words_spaced : (w : Word) (ns : List ℕ) → AllByRecursion Solid w → 0 < length w → AllByRecursion (λ n. n < 2 ^ 64) ns → words_of (w ++ spaced ns) ≡ w ∷ map decimal ns
 unfolding spaced
 words_spaced w [] h l a =
     ap words_of (append-nil w) ∙ ap (filter some) (parts_last Blank w (solid_clear Blank w h) l) ∙ cond-true (some w) (w ∷ []) [] (some_long w l)
@@ -121,12 +121,12 @@ words_spaced w (n ∷ ns) h l a =
     ap (filter some) (parts_first Blank w 32 rest (solid_clear Blank w h) refl) ∙ cond-true (some w) (w ∷ words_of rest) (words_of rest) (some_long w l)
     ∙ ap (λ ws. w ∷ ws) (words_spaced (decimal n) ns good.solid good.more a.1)
 
-spaced_clear : (m : Mark) (ns : List ℕ) → marks m 32 ≡ false → All (λ n. n < 2 ^ 64) ns → Clear m (spaced ns)
+spaced_clear : (m : Mark) (ns : List ℕ) → marks m 32 ≡ false → AllByRecursion (λ n. n < 2 ^ 64) ns → Clear m (spaced ns)
 unfolding spaced
 spaced_clear m [] e a = tt
 spaced_clear m (n ∷ ns) e a =
     (e, All-append (λ b. marks m b ≡ false) (decimal n) (spaced ns) (solid_clear m (decimal n) (decimal_good n a.0).solid) (spaced_clear m ns e a.1))
 
 -- a written line has no mark but blanks
-pub line_clear : (m : Mark) (w : Word) (ns : List ℕ) → marks m 32 ≡ false → All Solid w → All (λ n. n < 2 ^ 64) ns → Clear m (w ++ spaced ns)
+pub line_clear : (m : Mark) (w : Word) (ns : List ℕ) → marks m 32 ≡ false → AllByRecursion Solid w → AllByRecursion (λ n. n < 2 ^ 64) ns → Clear m (w ++ spaced ns)
 line_clear m w ns e h a = All-append (λ b. marks m b ≡ false) w (spaced ns) (solid_clear m w h) (spaced_clear m ns e a)

@@ -1,6 +1,6 @@
 -- Writing nodes in the notation: a line to each node, with all its operands. What is written reads as the same nodes.
 use Rattle.std.specs.Prelude.{◌≡◌, ℕ, ◌≤◌, true, List, [], ◌∷◌, ◌++◌, length, codes, decimal}
-use Rattle.std.specs.List.{AllByRecursion as All}
+use Rattle.std.specs.List.{AllByRecursion}
 use Rattle.text.specs.declared.node.Node.{Node}
 use Rattle.text.specs.declared.node.Node.TheVariants as node
 use Rattle.text.specs.Nodes.{sound}
@@ -54,7 +54,7 @@ Short (node.Then a b) = Unit {0}
 
 -- the nodes of every text are read back
 abbrev pub ReadsBack : Type 0
-ReadsBack = (ns : List Node) → sound [] ns ≡ true → All Short ns → 1 ≤ length ns → length ns ≤ 512 → text_in [] (written_nodes ns) ≡ Whole ns
+ReadsBack = (ns : List Node) → sound [] ns ≡ true → AllByRecursion Short ns → 1 ≤ length ns → length ns ≤ 512 → text_in [] (written_nodes ns) ≡ Whole ns
 
 -- operands that are left out are the latest nodes that no node has used, in the order in which they stand
 abbrev pub LeftOut : Type 0

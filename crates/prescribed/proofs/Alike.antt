@@ -2,7 +2,7 @@
 use Rattle.std.proofs.Common.{◌≡◌, ℕ, Bool, true, false, cond, not, ◌&&◌, ◌||◌, eqb, List, [], ◌∷◌, ◌++◌, length, get_or, set, sym, refl, ap, ◌∙◌, subst, inl, inr, ⊎_elim, arith, length-set}
 use mathlib.Core.List.Memᴰ
 use mathlib.Core.List.{Memᴰ}
-use Rattle.std.specs.List.{AllZip, AllByRecursion as All}
+use Rattle.std.specs.List.{AllZip, AllByRecursion}
 use Rattle.std.proofs.lemmas.List.{get_or-set_same, get_or-set_other, set_past}
 use Rattle.std.proofs.lemmas.Bool.{cases_eq, cases_lt}
 use Rattle.packet.specs.Packet.{Packet, field, put}
@@ -89,10 +89,10 @@ treated_alike a p r e f same =
     copies_alike (tested_in a) (put_in a) p r same a (λ w m. m) (λ w m. m) p r (record { eight = (e, f); at = λ g. inl (refl, refl) })
 
 -- copies have as many fields as packets have
-pub length_copies : (a : Policy) (p : Packet) → length p ≡ 8 → All (λ q. length q ≡ 8) (copies a p)
+pub length_copies : (a : Policy) (p : Packet) → length p ≡ 8 → AllByRecursion (λ q. length q ≡ 8) (copies a p)
 length_copies a p e = eights (copies a p) (copies a p) (treated_alike a p p e e (λ w m. refl))
   where
-    eights : (qs ss : List Packet) → AllZip (Alike (put_in a) p p) qs ss → All (λ q. length q ≡ 8) qs
+    eights : (qs ss : List Packet) → AllZip (Alike (put_in a) p p) qs ss → AllByRecursion (λ q. length q ≡ 8) qs
     eights [] [] h = tt
     eights [] (s ∷ ss) h = absurd h
     eights (q ∷ qs) [] h = absurd h

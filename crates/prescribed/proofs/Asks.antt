@@ -1,6 +1,6 @@
 -- What the rules of a table want: what is known, and then values of fields that are not known.
 use Rattle.std.proofs.Common.{◌≡◌, ℕ, Bool, true, false, cond, ◌&&◌, ◌||◌, eqb, List, [], ◌∷◌, ◌++◌, sym, refl, ap, ◌∙◌}
-use Rattle.std.specs.List.{AllByRecursion as All}
+use Rattle.std.specs.List.{AllByRecursion}
 use Rattle.std.proofs.lemmas.List.{append-nil, append_assoc}
 use Rattle.std.proofs.ByRecursion.{All-append, All-weaker}
 use Rattle.std.proofs.lemmas.Bool.{or_left, or_right, eq-eqb, cond_both, cond-false, both_ways, or_parts, or_from, and_parts, and_from, ne_eqb}
@@ -23,10 +23,10 @@ is_known_last known w = is_known_append w.at known (w ∷ []) ∙ or_right (is_k
 pub record Asks (known wants : List Want) : Type 0 where
   pub more : List Want
   pub whole : wants ≡ known ++ more
-  pub new : All (λ w. is_known w.at known ≡ false) more
+  pub new : AllByRecursion (λ w. is_known w.at known ≡ false) more
 
 abbrev pub AllAsk : List Want → Table → Type 0
-AllAsk known t = All (λ r. Asks known r.wants) t
+AllAsk known t = AllByRecursion (λ r. Asks known r.wants) t
 
 asks_earlier : (known : List Want) (w : Want) (wants : List Want) → is_known w.at known ≡ false → Asks (known ++ w ∷ []) wants → Asks known wants
 asks_earlier known w wants h k =
@@ -91,7 +91,7 @@ drop_field_met f (w ∷ ws) p h =
     ]
 
 module _ (known : List Want) (f : ℕ) (has : is_known f known ≡ true) where
-  drop_field_new : (ws : List Want) → All (λ w. is_known w.at known ≡ false) ws → drop_field f ws ≡ ws
+  drop_field_new : (ws : List Want) → AllByRecursion (λ w. is_known w.at known ≡ false) ws → drop_field f ws ≡ ws
   unfolding drop_field
   drop_field_new [] h = refl
   drop_field_new (w ∷ ws) h =

@@ -2,12 +2,12 @@
 use Rattle.std.proofs.Common.{List, [], ◌∷◌, map, sym, subst, ⊎_elim}
 use mathlib.Core.List.Memᴰ
 use mathlib.Core.List.{Memᴰ}
-use Rattle.std.specs.List.{AllByRecursion as All}
+use Rattle.std.specs.List.{AllByRecursion}
 
 abbrev pub SameElements : {A : Type 0} → List A → List A → Type 0
 SameElements {A} xs ys = (x : A) → (Memᴰ x xs → Memᴰ x ys) × (Memᴰ x ys → Memᴰ x xs)
 
-pub all_member : {A : Type 0} (P : A → Type 0) (x : A) (xs : List A) → All P xs → Memᴰ x xs → P x
+pub all_member : {A : Type 0} (P : A → Type 0) (x : A) (xs : List A) → AllByRecursion P xs → Memᴰ x xs → P x
 all_member P x [] h m = elim m [ ]
 all_member P x (y ∷ ys) h m = ⊎_elim (λ e. subst P (sym e) h.0) (λ n. all_member P x ys h.1 n) (Memᴰ.cases_cons m)
 

@@ -2,7 +2,7 @@
 use Rattle.std.proofs.Common.{◌≡◌, Bool, true, false, ◌⊎◌, List, [], ◌∷◌, sym, refl, ap, ◌∙◌, inl, inr, ⊎_elim}
 use mathlib.Core.List.Memᴰ
 use mathlib.Core.List.{Memᴰ}
-use Rattle.std.specs.List.{AllByRecursion as All}
+use Rattle.std.specs.List.{AllByRecursion}
 use Rattle.std.proofs.ByRecursion.{All-weaker}
 use Rattle.std.proofs.lemmas.Bool.{cond_both, both_ways}
 use Rattle.prescribed.specs.Order.{insert, rising}
@@ -17,7 +17,7 @@ pub record Ordered {A : Type 0} (less : A → A → Bool) : Type 0 where
 -- each element is less than all behind it
 abbrev pub Rises : {A : Type 0} → (A → A → Bool) → List A → Type 0
 Rises less [] = Unit {0}
-Rises less (x ∷ xs) = All (λ y. less x y ≡ true) xs × Rises less xs
+Rises less (x ∷ xs) = AllByRecursion (λ y. less x y ≡ true) xs × Rises less xs
 
 module _ {A : Type 0} (less : A → A → Bool) where
   insert_cases : (x z : A) (ys : List A) → Memᴰ z (insert less x ys) → (z ≡ x) ⊎ Memᴰ z ys
@@ -41,13 +41,13 @@ module _ {A : Type 0} (less : A → A → Bool) where
       (λ e. cond_both (less y x) _ _ (Memᴰ z)
       (λ d. ⊎_elim (λ c. Memᴰ.head c) (λ n. Memᴰ.tail (insert_old x z ys n)) (Memᴰ.cases_cons m)) (λ d. m))
 
-  insert_all : (P : A → Type 0) (x : A) (ys : List A) → P x → All P ys → All P (insert less x ys)
+  insert_all : (P : A → Type 0) (x : A) (ys : List A) → P x → AllByRecursion P ys → AllByRecursion P (insert less x ys)
   unfolding insert
   insert_all P x [] h k = (h, tt)
   insert_all P x (y ∷ ys) h k =
-      cond_both (less x y) _ _ (All P) (λ e. (h, k)) (λ e. cond_both (less y x) _ _ (All P) (λ d. (k.0, insert_all P x ys h k.1)) (λ d. k))
+      cond_both (less x y) _ _ (AllByRecursion P) (λ e. (h, k)) (λ e. cond_both (less y x) _ _ (AllByRecursion P) (λ d. (k.0, insert_all P x ys h k.1)) (λ d. k))
 
-  pub rising_all : (P : A → Type 0) (xs : List A) → All P xs → All P (rising less xs)
+  pub rising_all : (P : A → Type 0) (xs : List A) → AllByRecursion P xs → AllByRecursion P (rising less xs)
   unfolding rising
   rising_all P [] h = tt
   rising_all P (x ∷ xs) h = insert_all P x (rising less xs) h.0 (rising_all P xs h.1)
@@ -83,7 +83,7 @@ module _ {A : Type 0} (less : A → A → Bool) where
     rising_rises [] = tt
     rising_rises (x ∷ xs) = insert_rises x (rising less xs) (rising_rises xs)
 
-    less_than_all : (x y : A) (xs : List A) → All (λ z. less x z ≡ true) xs → Memᴰ y xs → less x y ≡ true
+    less_than_all : (x y : A) (xs : List A) → AllByRecursion (λ z. less x z ≡ true) xs → Memᴰ y xs → less x y ≡ true
     less_than_all x y xs h m = all_member (λ z. less x z ≡ true) y xs h m
 
     -- the first elements of two lists that rise and have the same elements

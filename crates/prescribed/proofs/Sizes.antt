@@ -1,6 +1,6 @@
 -- How many leaves and how many rules a table has.
 use Rattle.std.proofs.Common.{◌≡◌, ℕ, zero, suc, ◌+◌, ◌*◌, ◌<◌, ◌≤◌, true, false, cond, ◌||◌, eqb, List, [], ◌∷◌, ◌++◌, length, sym, refl, ap, ◌∙◌, subst, ⊎_elim, add-mul, add_comm, mul-one, mul-add, arith, length-append}
-use Rattle.std.specs.List.{AllByRecursion as All}
+use Rattle.std.specs.List.{AllByRecursion}
 use Rattle.std.proofs.lemmas.Bool.{cases_Bool, cases_eq, cond_both, cond-true, cond-false, eq-eqb, ne_eqb}
 use Rattle.packet.specs.Policy.{Policy}
 use Rattle.packet.specs.Table.{Want, Setting, Table}
@@ -105,7 +105,7 @@ over_none zero f known = refl
 over_none (suc k) f known =
     λ i. cond_both (is_known f known) 1 1 (λ v. v ≡ 1) (λ e. refl) (λ e. refl) i * over_none k (f + 1) known i
 
-leaves_over : (ws known : List Want) → All (λ w. w.at < 8) ws → leaves ws known ≡ over 8 0 known ws
+leaves_over : (ws known : List Want) → AllByRecursion (λ w. w.at < 8) ws → leaves ws known ≡ over 8 0 known ws
 unfolding leaves
 leaves_over [] known h = sym (over_none 8 0 known)
 leaves_over (w ∷ ws) known h =
@@ -121,7 +121,7 @@ over_product : (ws : List Want) → over 8 0 [] ws ≡ product ws
 unfolding over ways is_known
 over_product ws = simp mul-one
 
-pub leaves_product : (ws : List Want) → All (λ w. w.at < 8) ws → leaves ws [] ≡ product ws
+pub leaves_product : (ws : List Want) → AllByRecursion (λ w. w.at < 8) ws → leaves ws [] ≡ product ws
 leaves_product ws h = leaves_over ws [] h ∙ over_product ws
 
 pub product_counts : ProductCounts

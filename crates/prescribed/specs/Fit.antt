@@ -1,6 +1,6 @@
 -- When a policy fits, and which fault it has where it doesn't.
 use Rattle.std.specs.Prelude.{◌≡◌, ℕ, ◌+◌, ◌*◌, ◌<◌, ◌≤◌, Bool, false, cond, ◌||◌, List, [], ◌∷◌, ◌++◌, length, ◌==◌, nat_lt}
-use Rattle.std.specs.List.{AllByRecursion as All}
+use Rattle.std.specs.List.{AllByRecursion}
 use Rattle.packet.specs.Policy.{Policy, overfull}
 use Rattle.packet.specs.Table.{Want}
 use Rattle.prescribed.specs.Table.{tested_in, pairs_of, sample, is_known, table_from, whole_table, table_of}
@@ -16,7 +16,7 @@ product ws =
 
 -- every field that is tested is one of the eight
 abbrev pub Fields : Policy → Type 0
-Fields a = All (λ w. w.at < 8) (tested_in a)
+Fields a = AllByRecursion (λ w. w.at < 8) (tested_in a)
 
 -- the leaves of the recursion that makes a table
 unfoldable pub leaves : List Want → List Want → ℕ
