@@ -3,6 +3,7 @@
 
 use answer::answer;
 use console::{Asked, arguments, refusal};
+use std::process::ExitCode;
 use std::{env, fs, io};
 
 mod answer;
@@ -17,13 +18,19 @@ Reads two texts and prints `same`, or the smallest packet whose copies differ, w
   --help   prints this
 ";
 
-// Writes a line to standard error, and ends with an error.
-fn fail(rt: &HostRuntime, line: String) -> io::Result<()> {
+// Writes a line to standard error; the program is to end with status 1.
+fn fail(rt: &HostRuntime, line: String) -> io::Result<ExitCode> {
     rt.eprintln(line)?;
-    Err(io::Error::from(io::ErrorKind::InvalidInput))
+    Ok(ExitCode::FAILURE)
 }
 
-fn unreadable(rt: &HostRuntime, file: &String) -> io::Result<()> {
+// Writes a text to standard output; the program is to end with status 0.
+fn done(rt: &HostRuntime, text: &str) -> io::Result<ExitCode> {
+    rt.print(text)?;
+    Ok(ExitCode::SUCCESS)
+}
+
+fn unreadable(rt: &HostRuntime, file: &String) -> io::Result<ExitCode> {
     fail(
         rt,
         refusal::unreadable(rt.alloc(), "differ", file.as_str())?,
@@ -31,7 +38,7 @@ fn unreadable(rt: &HostRuntime, file: &String) -> io::Result<()> {
 }
 
 // Where the second file can't be read the first is tested all the same.
-fn compare(rt: &HostRuntime, bytes: bool, first: &String, second: &String) -> io::Result<()> {
+fn compare(rt: &HostRuntime, bytes: bool, first: &String, second: &String) -> io::Result<ExitCode> {
     let heap = rt.alloc();
     let Ok(one) = fs::read(rt, first.as_str()) else {
         return unreadable(rt, first);
@@ -42,7 +49,7 @@ fn compare(rt: &HostRuntime, bytes: bool, first: &String, second: &String) -> io
     };
     match answer(heap, bytes, one.as_slice(), two.as_slice()) {
         Ok(lines) => if is_read {
-            rt.print(lines.as_str())
+            done(rt, lines.as_str())
         } else {
             unreadable(rt, second)
         },
@@ -53,14 +60,14 @@ fn compare(rt: &HostRuntime, bytes: bool, first: &String, second: &String) -> io
     }
 }
 
-fn main(rt: HostRuntime) -> io::Result<()> {
+fn main(rt: HostRuntime) -> io::Result<ExitCode> {
     let heap = rt.alloc();
     let mut words = Vec::new(heap);
     for word in env::args(&rt)?.skip(1) {
         words.push(word)?;
     }
     let (bytes, files) = match arguments::read(words.as_slice(), true) {
-        Asked::Help => return rt.print(HELP),
+        Asked::Help => return done(&rt, HELP),
         Asked::Wrong => return fail(&rt, refusal::misused(heap, "differ", USAGE)?),
         Asked::Run { bytes, files } => (bytes, files),
     };
