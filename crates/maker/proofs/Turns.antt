@@ -4,10 +4,10 @@ use borrow.Rule.Slice.PartMut.{put_mid}
 use Rattle.std.proofs.lemmas.List.{take_at, drop_at, length-take-le, take-append-le, length-append, length-drop}
 use Rattle.std.proofs.lemmas.Bool.{eq-eqb, both_ways, or_right, or_left}
 use Rattle.octets.specs.declared.fault.Fault.{Fault}
-use Rattle.packet.specs.Packet.{Packet, put}
+use Rattle.packet.specs.Packet.{put}
 use Rattle.packet.specs.Policy.{Policy}
 use Rattle.packet.specs.Table.{Want}
-use Rattle.prescribed.specs.Table.{is_known, knowing, sample, unnamed, table_from}
+use Rattle.prescribed.specs.Table.{is_known, sample, unnamed, table_from}
 use Rattle.prescribed.specs.Fit.{leaves}
 use Rattle.prescribed.proofs.Asks.{is_known_append}
 use Rattle.maker.specs.declared.made.Made.{Made}
@@ -19,13 +19,9 @@ use Rattle.maker.specs.Knowing.{known_of}
 use Rattle.maker.specs.Making.{JoinedAs, rule_room, MadeOf}
 use Rattle.maker.specs.Tasks.{pair_at, field_at, Task}
 use Rattle.table.specs.Good.{Each, GoodWant}
+use Rattle.prescribed.proofs.Sample.{knowing_push}
 use Rattle.maker.proofs.Joining.{each_append}
 use Rattle.maker.proofs.Recursing.{wants_more, wants_none, leaves_known, leaves_new, made_known, made_crowded_y, made_crowded_n, made_over_y, made_over_n, made_joined}
-
-knowing_push : (ws : List Want) (w : Want) (p : Packet) → knowing (ws ++ w ∷ []) p ≡ put w.at w.value (knowing ws p)
-unfolding knowing
-knowing_push [] w p = refl
-knowing_push (v ∷ vs) w p = knowing_push vs w (put v.at v.value p)
 
 known_pushed : (ws : List Want) (w : Want) (f : ℕ) → w.at ≡ f → is_known f (ws ++ w ∷ []) ≡ true
 unfolding is_known
