@@ -1,6 +1,6 @@
 -- One step of the recursion: what is made of Y and N is made of both.
 use Rattle.std.proofs.Common.{◌≡◌, ℕ, zero, suc, ◌+◌, ◌-◌, ◌*◌, ◌<◌, ◌≤◌, Bool, true, false, cond, ◌||◌, ltb, List, [], ◌∷◌, ◌++◌, map, length, get_or, take, drop, Ok, Err, Result, sym, refl, ap, ◌∙◌, subst, arith}
-use Rattle.std.proofs.lemmas.List.{drop_more, drop_all}
+use Rattle.std.proofs.lemmas.List.{drop_more}
 use Rattle.std.proofs.lemmas.Bool.{cond-true, cond-false, or_left, or_right, or_from, or_parts, le-ltb, lt-ltb, ltb-false}
 use Rattle.octets.specs.declared.fault.Fault.{Fault}
 use Rattle.packet.specs.Policy.{Policy}
@@ -18,9 +18,6 @@ use Rattle.maker.specs.Making.{Written, JoinedAs, rule_room, MadeOf}
 -- the pairs from i on
 pub wants_more : (ps : List Pair) (i : ℕ) (d : Pair) → i < length ps → wants_of (drop i ps) ≡ want_of (get_or ps i d) ∷ wants_of (drop (i + 1) ps)
 wants_more ps i d lt = ap wants_of (drop_more ps i d lt)
-
-pub wants_none : (ps : List Pair) (i : ℕ) → length ps ≤ i → wants_of (drop i ps) ≡ []
-wants_none ps i le = ap wants_of (drop_all i ps le)
 
 module _ (a : Policy) (w : Want) (ws known : List Want) where
   -- at a pair whose field is known

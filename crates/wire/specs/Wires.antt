@@ -19,6 +19,11 @@ is_free Outside = false
 is_free (To i p) = false
 is_free Nothing = true
 
+abbrev pub is_outside : Wire → Bool
+is_outside Outside = true
+is_outside (To i p) = false
+is_outside Nothing = false
+
 abbrev pub is_cable : Wire → Bool
 is_cable Outside = false
 is_cable (To i p) = true

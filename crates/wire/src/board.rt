@@ -27,6 +27,15 @@ impl Wire {
         }
     }
 
+    pub fn is_outside(self) -> bool
+        ensures value { result ≡ spec.is_outside self }
+    {
+        match self {
+            Wire::Outside => true,
+            Wire::Nothing | Wire::To(_, _) => false,
+        }
+    }
+
     pub fn is_cable(self) -> bool
         ensures value { result ≡ spec.is_cable self }
     {

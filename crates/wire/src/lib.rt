@@ -8,8 +8,8 @@ pub mod mark;
 mod numbers;
 pub mod order;
 
-pub use board::Wire;
+pub use board::{Board, Wire};
 pub use cables::Cables;
 pub use frame::Frame;
 pub use mark::Mark;
-pub use order::{Letter, Message, Order};
+pub use order::{Letter, Message, Order, Reader};
