@@ -1,3 +1,6 @@
 pub mod Awaited
 pub mod Seen
-pub mod Same
+pub mod Ordered
+pub mod Calling
+pub mod Tables
+pub mod Repeated

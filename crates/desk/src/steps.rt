@@ -1,17 +1,30 @@
 // The desk's stages, and what it orders in each.
-ghost use Rattle.std.specs.Prelude.{◌≡◌};
+ghost use Rattle.std.specs.Prelude.{◌≡◌, true, IfOk};
 ghost use Rattle.packet.specs.Table.{Table};
 ghost use Rattle.run.specs.Desk.{after_round, first_desk, next_version, onwards, orders_of};
-ghost use Rattle.desk.specs.Model.{begins, begun, desk_of, listed, stage_of, told};
+ghost use Rattle.wire.specs.Cables.{layout_of};
+ghost use Rattle.desk.specs.Model.{begins, begun, desk_of, listed, size_of, told};
+ghost use Rattle.desk.specs.Stages.{stage_of, within};
 
-use crate::{Desk, Order, SWITCHES, Stage};
+use crate::stages::Stage;
+use crate::{Desk, SWITCHES};
 use octets::Fault;
+use wire::{Cables, Order};
 
 impl Desk {
-    pub fn first() -> Desk
+    // Version 0 runs, and no change is under way.
+    pub fn new(cables: &Cables) -> Desk
         ensures after { desk_of result ≡ first_desk }
+        ensures size { size_of result ≡ record { switches = (layout_of cables.now).switches; hops = (layout_of cables.now).hops } }
     {
-        unheard(0, 0, Stage::Idle)
+        Desk {
+            switches: cables.switches(),
+            hops: cables.hops(),
+            from: 0,
+            to: 0,
+            stage: Stage::Idle,
+            seen: [false; SWITCHES],
+        }
     }
 
     pub fn stage(self) -> Stage
@@ -20,12 +33,14 @@ impl Desk {
         self.stage
     }
 
+    // The version that runs.
     pub fn from(self) -> u16
         ensures value { result ≡ (desk_of self).from }
     {
         self.from
     }
 
+    // The version that a change leads to.
     pub fn to(self) -> u16
         ensures value { result ≡ (desk_of self).to }
     {
@@ -46,7 +61,7 @@ impl Desk {
     }
 
     // The version of the next change.
-    pub fn next_version(self) -> Option<u16>
+    fn next_version(self) -> Option<u16>
         ensures value { result ≡ next_version (desk_of self) }
     {
         if self.to < 65535 {
@@ -56,50 +71,57 @@ impl Desk {
         }
     }
 
+    // The stage begins: no switch has answered.
+    fn enter(self, from: u16, to: u16, stage: Stage) -> Desk
+        requires within { within stage self.hops ≡ true }
+        ensures after { desk_of result ≡ begins from to (stage_of stage) }
+        ensures size { size_of result ≡ size_of self }
+    {
+        Desk {
+            switches: self.switches,
+            hops: self.hops,
+            from,
+            to,
+            stage,
+            seen: [false; SWITCHES],
+        }
+    }
+
     // A change begins, unless another one is under way or the version is the last one.
-    pub fn change(self) -> Result<Desk, Fault>
+    pub(crate) fn begin(self) -> Result<Desk, Fault>
         ensures after { told result ≡ begun (desk_of self) }
+        ensures size { IfOk result (λ d. size_of d ≡ size_of self) }
     {
         let Stage::Idle = self.stage else {
             return Err(Fault::Busy);
         };
         match self.next_version() {
             None => Err(Fault::LastVersion),
-            Some(to) => Ok(unheard(self.from, to, Stage::Installing)),
+            Some(to) => Ok(self.enter(self.from, to, Stage::Installing)),
         }
     }
 
-    // All have answered: on to the next stage, with this many rounds between stamping and removing.
-    pub fn go_on(self, rounds: u8) -> Desk
-        ensures after { desk_of result ≡ onwards rounds (desk_of self) }
+    // All have answered: on to the next stage.
+    pub(crate) fn go_on(self) -> Desk
+        ensures after { desk_of result ≡ onwards self.hops (desk_of self) }
+        ensures size { size_of result ≡ size_of self }
     {
         match self.stage {
             Stage::Idle => self,
-            Stage::Installing => unheard(self.from, self.to, Stage::Stamping),
-            Stage::Stamping => unheard(self.from, self.to, after_round(rounds, 0)),
-            Stage::Flushing(r) => unheard(self.from, self.to, after_round(rounds, r)),
-            Stage::Removing => unheard(self.to, self.to, Stage::Idle),
+            Stage::Installing => self.enter(self.from, self.to, Stage::Stamping),
+            Stage::Stamping => self.enter(self.from, self.to, after_round(self.hops, 0)),
+            Stage::Flushing(r) => self.enter(self.from, self.to, after_round(self.hops, r)),
+            Stage::Removing => self.enter(self.to, self.to, Stage::Idle),
         }
     }
 }
 
-// The stage begins: no switch has answered.
-fn unheard(from: u16, to: u16, stage: Stage) -> Desk
-    ensures after { desk_of result ≡ begins from to (stage_of stage) }
+// The stage behind round r. There are as many rounds as hops.
+fn after_round(hops: u8, r: u8) -> Stage
+    ensures value { stage_of result ≡ after_round hops r }
+    ensures within { within result hops ≡ true }
 {
-    Desk {
-        from,
-        to,
-        stage,
-        seen: [false; SWITCHES],
-    }
-}
-
-// The stage behind round r.
-fn after_round(rounds: u8, r: u8) -> Stage
-    ensures value { stage_of result ≡ after_round rounds r }
-{
-    if r < rounds {
+    if r < hops {
         Stage::Flushing(r + 1)
     } else {
         Stage::Removing

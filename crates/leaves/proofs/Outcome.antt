@@ -1,19 +1,16 @@
 -- One out more among the outs, one copy more among the copies, and what is answered of a packet.
-use Rattle.std.proofs.Common.{◌≡◌, ℕ, ◌+◌, ◌-◌, ◌<◌, ◌≤◌, true, false, List, map, length, get_or, take, Ok, Result, sym, ap, ◌∙◌, subst, arith}
+use Rattle.std.proofs.Common.{◌≡◌, ℕ, ◌+◌, ◌-◌, ◌<◌, ◌≤◌, true, false, List, map, length, get_or, take, Ok, sym, ap, ◌∙◌, subst, arith}
 use Rattle.std.specs.List.{insert as inserted}
 use Rattle.std.proofs.lemmas.List.{length-map, length-take, length-take-le, get_or-take, map_more, map_push}
-use Rattle.std.proofs.lemmas.Bool.{lt-ltb}
-use Rattle.std.proofs.lemmas.Bool.Decides.{when_true}
-use Rattle.octets.specs.declared.fault.Fault.{Fault}
 use Rattle.packet.specs.Packet as packets
 use Rattle.packet.specs.Packet.{once}
 use Rattle.packet.specs.Policy.{copies}
 use Rattle.packet.specs.declared.Packet.{Packet}
 use Rattle.packet.proofs.Sets.{once_same_set}
 use Rattle.text.specs.declared.node.Node.{Node}
-use Rattle.text.specs.Trees.{trees, policy_at, meaning}
+use Rattle.text.specs.Trees.{meaning}
 use Rattle.meaning.specs.declared.copies.Copies.{Copies}
-use Rattle.meaning.specs.Answers.{listing, Answered, CopiesAt}
+use Rattle.meaning.specs.Answers.{listing, Answered}
 use Rattle.meaning.specs.Listed.{fields_of}
 use Rattle.prescribed.specs.Order.{insert, rising, less_out}
 use Rattle.prescribed.specs.Table.{changes}
@@ -58,10 +55,6 @@ outs_more p qs i d lt =
 pub few_copies : (s : Copies) (qs : List Packet) → fields_of qs ≡ listing s → length qs ≤ 16
 few_copies s qs e =
     omega (arith, sym (length-map qs (λ q. q.fields)) ∙ ap length e ∙ length-map (take s.count s.packets) (λ q. q.fields), length-take s.count s.packets, s.within)
-
--- the last node is what the text means
-pub last-answered : (ns : List Node) (k : ℕ) (p : packets.Packet) (r : Result Copies Fault) → 1 ≤ length ns → k ≡ length ns - 1 → CopiesAt ns k p r → Answered (meaning ns) p r
-last-answered ns k p r some e h = subst (λ j. Answered (policy_at (trees ns) j) p r) e (when_true _ _ (lt-ltb k (length ns) (omega arith)) h)
 
 -- each copy once gives the same outs
 pub leaf_given : (ns : List Node) (p : packets.Packet) (s : Copies) (qs : List Packet) (o : Outs) → Answered (meaning ns) p (Ok s) →

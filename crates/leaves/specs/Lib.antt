@@ -2,3 +2,4 @@ pub mod Place
 pub mod Pairs
 pub mod Outs
 pub mod Under
+pub mod Leaf

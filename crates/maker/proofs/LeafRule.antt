@@ -71,7 +71,3 @@ module _ (a : Policy) (known : List Want) (p : Packet) (is : p ≡ sample a know
           good = (record { few_wants = wants; wants = low; few_outs = omega (arith, ap length leafed); outs = outs_good }, tt);
         },
       )
-
-  pub leaf-crowded : (words : List ℕ) → overfull a p ≡ true → crowded a [] known ≡ true
-  unfolding crowded
-  leaf-crowded words crowd = ap (overfull a) (sym is) ∙ crowd

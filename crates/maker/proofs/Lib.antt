@@ -9,3 +9,4 @@ mod Steps
 mod Turns
 mod Wholes
 mod SameWords
+mod Cuts

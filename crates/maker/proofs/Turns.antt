@@ -19,13 +19,9 @@ use Rattle.maker.specs.Knowing.{known_of}
 use Rattle.maker.specs.Making.{JoinedAs, rule_room, MadeOf}
 use Rattle.maker.specs.Tasks.{pair_at, field_at, Task}
 use Rattle.table.specs.Good.{Each, GoodWant}
+use Rattle.prescribed.proofs.Sample.{knowing_push}
 use Rattle.maker.proofs.Joining.{each_append}
-use Rattle.maker.proofs.Recursing.{wants_more, wants_none, leaves_known, leaves_new, made_known, made_crowded_y, made_crowded_n, made_over_y, made_over_n, made_joined}
-
-knowing_push : (ws : List Want) (w : Want) (p : Packet) → knowing (ws ++ w ∷ []) p ≡ put w.at w.value (knowing ws p)
-unfolding knowing
-knowing_push [] w p = refl
-knowing_push (v ∷ vs) w p = knowing_push vs w (put v.at v.value p)
+use Rattle.maker.proofs.Recursing.{wants_more, leaves_known, leaves_new, made_known, made_crowded_y, made_crowded_n, made_over_y, made_over_n, made_joined}
 
 known_pushed : (ws : List Want) (w : Want) (f : ℕ) → w.at ≡ f → is_known f (ws ++ w ∷ []) ≡ true
 unfolding is_known
@@ -146,11 +142,6 @@ module _ (e m : ℕ) (ws back : List ℕ) (le : e ≤ length ws) (inside : m ≤
 
   pub back_is : take m (drop e (put_mid e (length ws - e) ws back)) ≡ take m back
   back_is = ap (take m) (drop_at (take e ws) _ e (length-take-le e ws le)) ∙ take-append-le m back _ inside
-
--- where no pair is left there is room for a rule
-pub room-for-leaf : (a : Policy) (ps : List Pair) (i : ℕ) (k : Known) (words : ℕ) → Task a ps i k words → length ps ≤ i → 290 ≤ words
-unfolding leaves
-room-for-leaf a ps i k words task le = omega (arith, task.room, ap (λ l. leaves l (known_of k)) (wants_none ps i le))
 
 -- the whole keeps its length
 pub whole_length : (e : ℕ) (ws back : List ℕ) → e ≤ length ws → length back ≡ length ws - e → length (put_mid e (length ws - e) ws back) ≡ length ws

@@ -1,29 +1,42 @@
 -- From the recursion to a whole text: where it begins, and what its answer says of the text.
-use Rattle.std.proofs.Common.{◌≡◌, ℕ, zero, suc, ◌+◌, ◌*◌, ◌<◌, ◌≤◌, true, cond, ◌||◌, eqb, ltb, List, [], ◌∷◌, ◌++◌, length, take, drop, Ok, Err, sym, ap, ◌∙◌, subst, ⊎_elim, arith}
+use Rattle.std.proofs.Common.{◌≡◌, ℕ, zero, suc, ◌+◌, ◌-◌, ◌*◌, ◌<◌, ◌≤◌, Bool, true, false, cond, ◌||◌, eqb, ltb, List, [], ◌∷◌, ◌++◌, length, get_or, take, drop, Ok, Err, sym, refl, ap, ◌∙◌, subst, ⊎_elim, arith}
+use mathlib.Core.List.{Memᴰ}
 use Rattle.std.specs.List.{AllWithin, AllByRecursion}
-use Rattle.std.proofs.lemmas.List.{take-take, get_or_past}
+use Rattle.std.proofs.lemmas.List.{take-take, get_or_past, get_or_default}
 use Rattle.std.proofs.lemmas.Bool.{cond-true, cond-false, or_left, or_right, or_from, or_cases, and_parts, ltb-true, eqb-true, le-ltb, lt-ltb, cases_lt}
 use Rattle.octets.specs.declared.fault.Fault.{Fault}
 use Rattle.octets.specs.Faults.{number}
-use Rattle.packet.specs.Policy.{Policy}
+use Rattle.octets.specs.declared.fault.Fault.TheVariants as faults
+use Rattle.packet.specs.Packet.{Packet}
+use Rattle.packet.specs.Policy.{Policy, overfull}
 use Rattle.packet.specs.Table as tables
 use Rattle.prescribed.specs.Order.{less_want}
-use Rattle.prescribed.specs.Table.{pairs_of, knowing, unnamed, whole_table, trim, table_of}
+use Rattle.text.specs.declared.node.Node.{Node}
+use Rattle.text.specs.Trees.{meaning}
+use Rattle.meaning.specs.Resting.{asked}
+use Rattle.meaning.proofs.Asking.{tested_asked}
+use Rattle.levels.specs.Rests.{Clear}
+use Rattle.levels.proofs.Cutting.{clear_unnamed}
+use Rattle.prescribed.specs.Table.{tested_in, names, pairs_of, knowing, unnamed, whole_table, trim, table_of}
 use Rattle.prescribed.specs.Fit.{product, leaves, crowded, long, fault_of}
-use Rattle.prescribed.proofs.Rising.{Rises}
-use Rattle.prescribed.proofs.Orders.{pairs_rise}
+use Rattle.prescribed.proofs.Free.{named}
+use Rattle.prescribed.proofs.Rising.{Rises, rising_same}
+use Rattle.prescribed.proofs.Orders.{want_ordered, pairs_rise}
 use Rattle.prescribed.proofs.Sizes.{leaves_product}
-use Rattle.table.specs.Good.{Each, GoodWant, GoodRule}
+use Rattle.table.specs.Good.{Each, GoodWant, GoodRule, Good}
 use Rattle.table.specs.Words.{encode}
+use Rattle.leaves.specs.declared.leaf.Leaf.{Leaf}
 use Rattle.leaves.specs.declared.pairs.Pair.{Pair}
+use Rattle.leaves.specs.Leaf.{LeafOf}
 use Rattle.leaves.specs.Pairs.{want_of, wants_of}
 use Rattle.maker.specs.declared.known.Known.{Known}
 use Rattle.maker.specs.declared.made.Made.TheVariants.{Rules, Over}
 use Rattle.maker.specs.Knowing.{known_of}
 use Rattle.maker.specs.Making.{rule_room, MadeOf}
-use Rattle.maker.specs.Tasks.{field_at, Task}
+use Rattle.maker.specs.Tasks.{pair_at, field_at, Ordered, Counted, Task, Here}
 use Rattle.maker.specs.End.{Ended}
 use Rattle.maker.specs.Whole as whole
+use Rattle.maker.proofs.Cuts.{crowded_below}
 use Rattle.maker.proofs.Ends.{trim_part, trim_front}
 
 -- pairs that are low
@@ -53,6 +66,35 @@ fields_rise (p ∷ (q ∷ ps)) h zero lt = less_fields p q h.0.0
 fields_rise (p ∷ (q ∷ ps)) h (suc j) lt =
     let e : suc j + 1 ≡ suc (j + 1) = omega arith in
     subst (λ k. field_at (p ∷ (q ∷ ps)) (suc j) ≤ field_at (p ∷ (q ∷ ps)) k) (sym e) (fields_rise (q ∷ ps) h.1 j (omega arith))
+
+-- each pair is one that a node tests
+pair_asked : (ns : List Node) (ps : List Pair) → wants_of ps ≡ pairs_of (meaning ns) → (j : ℕ) → j < length ps → names (field_at ps j) (pair_at ps j).value (asked ns) ≡ true
+pair_asked ns ps pairs j lt =
+    let w = want_of (pair_at ps j) in
+    let there : Memᴰ w (wants_of ps) = mathlib.Core.List.Memᴰ.map want_of (at_member ps j lt) in
+    tested_asked (field_at ps j) (pair_at ps j).value ns
+    (named w (tested_in (meaning ns)) ((rising_same less_want want_ordered (tested_in (meaning ns)) w).0 (subst (Memᴰ w) pairs there)))
+  where
+    at_member : (qs : List Pair) (i : ℕ) → i < length qs → Memᴰ (pair_at qs i) qs
+    at_member [] i l = absurd (omega arith)
+    at_member (q ∷ qs) zero l = mathlib.Core.List.Memᴰ.head refl
+    at_member (q ∷ qs) (suc i) l = mathlib.Core.List.Memᴰ.tail (at_member qs i (omega arith))
+
+-- the leaf of which nothing is known
+pub first_here : (ns : List Node) (ps : List Pair) → wants_of ps ≡ pairs_of (meaning ns) → (k : Known) → k.sample.fields ≡ unnamed (meaning ns) → (leaf : Leaf) (p : Packet) → p ≡ k.sample.fields →
+    LeafOf (asked ns) (meaning ns) p (Ok leaf) → Here (asked ns) (meaning ns) ps k leaf
+first_here ns ps pairs k sampled leaf p e given = record {
+  gives = subst (λ q. LeafOf (asked ns) (meaning ns) q (Ok leaf)) e given;
+  clear = subst (Clear (asked ns) (meaning ns)) (sym sampled) (clear_unnamed (asked ns) (meaning ns));
+  asked = pair_asked ns ps pairs;
+}
+
+pub first_crowded : (a : Policy) (ps : List Pair) → wants_of ps ≡ pairs_of a → product (wants_of ps) ≤ 65536 → (p : Packet) → p ≡ unnamed a → (f : Fault) → overfull a p ≡ true → f ≡ faults.Copies → (number f ≡ fault_of a) × (0 < fault_of a)
+unfolding knowing
+first_crowded a ps pairs small p e f crowd is =
+    let six : fault_of a ≡ 6
+    = cond-false _ _ _ (le-ltb 65536 (product (pairs_of a)) (omega (arith, small, ap product pairs))) ∙ cond-true _ _ _ (crowded_below a (pairs_of a) [] (ap (overfull a) (sym e) ∙ crowd)) in
+    (ap number is ∙ sym six, omega (arith, six))
 
 module _ (a : Policy) (ps : List Pair) (pairs : wants_of ps ≡ pairs_of a) (k : Known) (none : known_of k ≡ []) where
   -- where the recursion begins

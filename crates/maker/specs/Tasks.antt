@@ -1,11 +1,15 @@
 -- What the recursion is given.
-use Rattle.std.specs.Prelude.{◌≡◌, ℕ, ◌+◌, ◌*◌, ◌<◌, ◌≤◌, false, List, length, drop, slice_index_or}
+use Rattle.std.specs.Prelude.{◌≡◌, ℕ, ◌+◌, ◌*◌, ◌<◌, ◌≤◌, true, false, ◌⊎◌, List, length, drop, Ok, slice_index_or}
 use Rattle.packet.specs.Policy.{Policy}
-use Rattle.prescribed.specs.Table.{is_known, sample}
+use Rattle.packet.specs.Table.{Want}
+use Rattle.prescribed.specs.Table.{names, is_known, sample}
 use Rattle.prescribed.specs.Fit.{leaves}
 use Rattle.table.specs.Good.{Each, GoodWant}
+use Rattle.levels.specs.Rests.{Clear}
+use Rattle.leaves.specs.declared.leaf.Leaf.{Leaf}
 use Rattle.leaves.specs.declared.pairs.Pair.{Pair}
 use Rattle.maker.specs.declared.known.Known.{Known}
+use Rattle.leaves.specs.Leaf.{LeafOf}
 use Rattle.leaves.specs.Pairs.{wants_of}
 use Rattle.maker.specs.Knowing.{known_of}
 use Rattle.maker.specs.Making.{rule_room}
@@ -34,3 +38,16 @@ pub record Task (a : Policy) (ps : List Pair) (i : ℕ) (k : Known) (words : ℕ
   pub low : Each GoodWant (known_of k)
   pub sample : k.sample.fields ≡ sample a (known_of k)
   pub room : rule_room * leaves (wants_of (drop i ps)) (known_of k) ≤ words
+
+-- no pair from i on has a field below n, or the next one has
+abbrev pub Settled : List Pair → ℕ → ℕ → Type 0
+Settled ps i n = (length ps ≤ i) ⊎ (n ≤ field_at ps i)
+
+abbrev pub Asks : List Pair → ℕ → ℕ → Type 0
+Asks ps i n = (i < length ps) × (field_at ps i < n)
+
+-- the leaf has what the policy does with the sample of what is known, for pairs that are all among ws
+pub record Here (ws : List Want) (a : Policy) (ps : List Pair) (k : Known) (leaf : Leaf) : Type 0 where
+  pub gives : LeafOf ws a k.sample.fields (Ok leaf)
+  pub clear : Clear ws a k.sample.fields
+  pub asked : (j : ℕ) → j < length ps → names (field_at ps j) (pair_at ps j).value ws ≡ true

@@ -1,22 +1,12 @@
-// One rule, where no pair is left.
+// One rule in words.
 ghost use Rattle.std.specs.Prelude.{◌≡◌, ◌+◌, ◌*◌, ◌<◌, ◌≤◌, [], ◌∷◌, ◌++◌, length, take};
 ghost use Rattle.std.specs.List.{flat_map};
-ghost use Rattle.packet.specs.Table as model;
-ghost use Rattle.text.specs.Texts.{nodes_of};
-ghost use Rattle.text.specs.Trees.{meaning};
-ghost use Rattle.meaning.specs.Evaluators.{text_of};
-ghost use Rattle.prescribed.specs.Table as table;
-ghost use Rattle.table.specs.Good.{Each, GoodWant};
 ghost use Rattle.table.specs.Words.{want_words, out_words, rule_words};
 ghost use Rattle.leaves.specs.Outs.{settings_of, outs_of};
 ghost use Rattle.maker.specs.Knowing.{known_of};
-ghost use Rattle.maker.specs.Making.{MadeOf};
 
 use crate::known::Known;
-use crate::made::Made;
 use leaves::{Out, Outs};
-use meaning::Evaluator;
-use octets::Fault;
 
 // Writes one word behind the first `at`.
 fn word(out: &mut [u16], at: usize, w: u16) -> usize
@@ -82,19 +72,12 @@ fn all_outs(out: &mut [u16], at: usize, outs: Outs) -> usize
     at
 }
 
-// Writes the rule of what is known at the front of `out`.
-pub fn leaf(evaluator: &mut Evaluator, known: Known, out: &mut [u16]) -> Result<Made, Fault>
-    requires sample { known.sample.fields ≡ table.sample (meaning (nodes_of (text_of evaluator.old))) (known_of known) }
-    requires low { Each GoodWant (known_of known) }
+// Writes the rule with these outs, of what is known, at the front of `out`.
+pub fn rule(known: Known, outs: Outs, out: &mut [u16]) -> usize
     requires room { 290 ≤ length out.old }
-    ensures text { text_of evaluator.new ≡ text_of evaluator.old }
-    ensures made { MadeOf (meaning (nodes_of (text_of evaluator.old))) [] (known_of known) out.new result }
+    ensures end { result ≤ 290 }
+    ensures words { take result out.new ≡ rule_words (record { wants = known_of known; outs = outs_of outs }) }
 {
-    let outs = match Outs::of(evaluator, known.sample()) {
-        Ok(outs) => outs,
-        Err(fault) => return Err(fault),
-    };
     let at = wants(out, 0, known);
-    let end = all_outs(out, at, outs);
-    Ok(Made::Rules(end, 1))
+    all_outs(out, at, outs)
 }

@@ -14,7 +14,7 @@ use crate::end::end;
 use crate::known::Known;
 use crate::made::Made;
 use crate::making::make;
-use leaves::Pair;
+use leaves::{Leaf, Pair};
 use meaning::Evaluator;
 use octets::Fault;
 use packet::Packet;
@@ -37,7 +37,11 @@ pub fn whole(
     ensures text { text_of evaluator.new ≡ text_of evaluator.old }
     ensures whole { WholeOf (meaning (nodes_of (text_of evaluator.old))) out.new result }
 {
-    let made = match make(evaluator, pairs, 0, Known::none(unnamed), out) {
+    let first = match Leaf::of(evaluator, unnamed) {
+        Ok(first) => first,
+        Err(fault) => return Err(fault),
+    };
+    let made = match make(evaluator, pairs, 0, Known::none(unnamed), &first, out) {
         Ok(made) => made,
         Err(fault) => return Err(fault),
     };

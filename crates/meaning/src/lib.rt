@@ -2,10 +2,15 @@
 #![tactic(auto)]
 
 pub mod copies;
+mod descent;
 pub mod evaluator;
+pub mod given;
 mod gives;
 mod memo;
+mod raising;
+mod rows;
 mod tests;
 
 pub use copies::Copies;
 pub use evaluator::Evaluator;
+pub use given::{Flight, Given};

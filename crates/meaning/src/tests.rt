@@ -1,12 +1,9 @@
-// Tests: a row for a packet, filled from the first node to the last, tells which ones it passes.
-ghost use Rattle.std.specs.Prelude.{◌≡◌, ◌<◌, ◌≤◌, length};
-ghost use Rattle.packet.specs.Policy.{holds};
+// Bytes that have an answer and on how many fields it rests.
+ghost use Rattle.std.specs.Prelude.{◌≡◌, ◌<◌, ◌≤◌, min, max, length};
 ghost use Rattle.text.specs.Texts.{nodes_of};
-ghost use Rattle.text.specs.Trees.{trees, test_at};
-ghost use Rattle.meaning.specs.Kept.{Stands, Says, RowRight, Right};
+ghost use Rattle.levels.specs.Bytes.{says_yes, level_of, is_byte};
+ghost use Rattle.meaning.specs.Kept.{Stands};
 
-use crate::memo::{Memo, ROWS, Row, known_test};
-use packet::Packet;
 use text::{Node, Text};
 
 pub fn node_at(text: &Text, k: usize) -> Node
@@ -16,47 +13,39 @@ pub fn node_at(text: &Text, k: usize) -> Node
     text.nodes()[k]
 }
 
-// Whether the packet passes node k, where the row tells it of the earlier nodes.
-fn tells(text: &Text, k: usize, p: Packet, row: &[bool]) -> bool
-    requires within { k < length (nodes_of text.now) }
-    requires room { k ≤ length row.now }
-    requires says { Says (nodes_of text.now) k p.fields row.now }
-    ensures value { result ≡ holds (test_at (trees (nodes_of text.now)) k) p.fields }
+// The byte of a field that is v now and was y at first, where x is asked for.
+pub fn field_byte(y: u16, v: u16, f: u8, x: u16) -> u8
+    requires low { f ≤ 7 }
+    ensures value { result ≡ is_byte y v f x }
 {
-    match node_at(text, k) {
-        Node::Always => true,
-        Node::Is(f, x) => p.field(f) == x,
-        Node::Both(a, b) => row[a as usize] && row[b as usize],
-        Node::Either(a, b) => row[a as usize] || row[b as usize],
-        Node::Not(a) => !row[a as usize],
-        Node::Keep(_) | Node::Put(_, _) | Node::And(_, _) | Node::Then(_, _) => false,
-    }
+    // What a put has set rests on nothing.
+    let level = if v == y { f + 1 } else { 0 };
+    if v == x { 255 - level } else { level }
 }
 
-pub fn row_of(text: &Text, p: Packet) -> Row
-    ensures packet { result.packet ≡ p }
-    ensures right { RowRight (nodes_of text.now) result }
+// A no that rests on few fields, or else a yes that rests on many, decides.
+pub fn both(d: u8, e: u8) -> u8
+    ensures value { result ≡ min d e }
 {
-    let mut tests = [false; 512];
-    for k in 0..text.nodes().len() {
-        tests[k] = tells(text, k, p, &tests);
-    }
-    Row { packet: p, tests }
+    d.min(e)
 }
 
-// Whether the packet passes node a, by its row, which is made where there is none.
-pub fn passes(text: &Text, a: usize, p: Packet, memo: &mut Memo) -> bool
-    requires within { a < length (nodes_of text.now) }
-    requires memo { Right (nodes_of text.now) memo.old }
-    ensures memo { Right (nodes_of text.now) memo.new }
-    ensures value { result ≡ holds (test_at (trees (nodes_of text.now)) a) p.fields }
+pub fn either(d: u8, e: u8) -> u8
+    ensures value { result ≡ max d e }
 {
-    if let Some(passed) = known_test(&memo.rows.as_slice()[..memo.filled], a, p) {
-        return passed;
-    }
-    let row = row_of(text, p);
-    let at = if memo.filled < ROWS { memo.filled } else { 0 };
-    memo.rows[at] = row;
-    memo.filled = at + 1;
-    row.tests[a]
+    d.max(e)
+}
+
+// The answer that a byte has.
+pub fn says_yes(byte: u8) -> bool
+    ensures value { result ≡ says_yes byte }
+{
+    byte >= 128
+}
+
+// On how many fields it rests.
+pub fn level_of(byte: u8) -> u8
+    ensures value { result ≡ level_of byte }
+{
+    byte.min(255 - byte)
 }

@@ -5,8 +5,9 @@ use Rattle.run.specs.At.{at}
 use Rattle.run.specs.Net.{Wire}
 use Rattle.run.specs.Switch as run
 use Rattle.run.specs.Switch.{all_reach, is_cable, later, reaches}
-use Rattle.switch.specs.declared.marks.Mark.{Mark}
-use Rattle.switch.specs.Marking.{mark_of, no_mark, no_marks, kept}
+use Rattle.wire.specs.declared.mark.Mark.{Mark}
+use Rattle.switch.specs.Marking.{no_mark, no_marks, kept}
+use Rattle.switch.specs.Ties.{mark_of}
 
 none_of : (n p : ℕ) → get_or (replicate n no_mark) p no_mark ≡ no_mark
 none_of zero p = refl
@@ -16,7 +17,7 @@ none_of (suc n) (suc p) = none_of n p
 pub no_marks_lem : ◌≡◌ {A = ℕ → run.Mark} (λ p. mark_of (get_or (replicate 32 no_mark) p no_mark)) no_marks
 no_marks_lem = λ k p. mark_of (none_of 32 p k)
 
-by_place : {A : Type 0} (i j : ℕ) (a b x : A) → (j ≡ i → x ≡ a) → (j ≢ i → x ≡ b) → x ≡ cond (eqb j i) a b
+pub by_place : {A : Type 0} (i j : ℕ) (a b x : A) → (j ≡ i → x ≡ a) → (j ≢ i → x ≡ b) → x ≡ cond (eqb j i) a b
 by_place i j a b x same other =
     ⊎_elim
     (λ p. same p.1 ∙ sym (ap (λ t. cond t a b) p.0))

@@ -5,10 +5,7 @@ use Rattle.packet.specs.Table.{Table}
 use Rattle.run.specs.Switch as run
 use Rattle.run.specs.Switch.{knows, table_of, gone}
 use Rattle.switch.specs.declared.versions.held.Held.{Held}
-
--- how many places there are
-abbrev pub slots : ℕ
-slots = 2
+use Rattle.switch.specs.Limits.{slots}
 
 abbrev pub Places : Type 0
 Places = ℕ → Table

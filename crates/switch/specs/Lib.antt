@@ -1,3 +1,12 @@
+pub mod Limits
+pub mod Ties
+pub mod Sending
 pub mod Marking
 pub mod Holding
 pub mod Model
+pub mod Showing
+pub mod Lent
+pub mod Orders
+pub mod Turns
+pub mod Arrivals
+pub mod Understood

@@ -1,13 +1,20 @@
 // A switch: its state is small and goes by value; its tables lie in memory that it is lent, a place for each version that it can hold at once.
 #![tactic(auto)]
 
-pub mod marks;
-pub mod steps;
-pub mod versions;
+mod arrivals;
+mod marks;
+mod orders;
+mod passing;
+mod sends;
+mod shown;
+mod steps;
+mod versions;
 
-pub use marks::{Mark, Marks, PORTS};
-pub use steps::Taken;
-pub use versions::{SLOTS, Versions};
+use marks::Marks;
+pub use sends::{MOST_SENDS, Send, Sends};
+pub use shown::Shown;
+pub use versions::SLOTS;
+use versions::Versions;
 
 // stamp: the version of what comes in from outside. floor: no version below it is taken in.
 #[derive(Clone, Copy)]

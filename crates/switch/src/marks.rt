@@ -1,47 +1,42 @@
-// Marks, and the latest one that came in at each port.
-ghost use Rattle.std.specs.Prelude.{◌≡◌, ℕ, ◌<◌, ◌≤◌, length};
-ghost use Rattle.run.specs.Net.{Wire};
+// The latest mark that came in at each port.
+ghost use Rattle.std.specs.Prelude.{◌≡◌, ◌<◌};
 ghost use Rattle.run.specs.Switch.{all_reach, later, reaches};
-ghost use Rattle.switch.specs.Marking.{Drawn, kept, latest_of, mark_of, no_marks, ports};
+ghost use Rattle.wire.specs.Cables.{layout_of};
+ghost use Rattle.switch.specs.Limits.{ports};
+ghost use Rattle.switch.specs.Marking.{kept, latest_of, no_marks};
+ghost use Rattle.switch.specs.Ties.{mark_of, wires_at};
+
+use wire::{Cables, Mark};
 
 // The ports that a switch can have.
-pub const PORTS: usize = 32;
+const PORTS: usize = 32;
 
-// A mark of a round of a version's change. Rounds count from 1: version 0 and round 0 stand for no mark.
-#[derive(Clone, Copy, Debug, PartialEq)]
-pub struct Mark {
-    pub version: u16,
-    pub round: u8,
-}
-
-pub const NO_MARK: Mark = Mark {
+const NO_MARK: Mark = Mark {
     version: 0,
     round: 0,
 };
 
 #[derive(Clone, Copy)]
-pub struct Marks {
+pub(crate) struct Marks {
     latest: [Mark; PORTS],
 }
 
-impl Mark {
-    // Versions first, then rounds.
-    pub fn is_later(self, other: Mark) -> bool
-        ensures value { result ≡ later (mark_of self) (mark_of other) }
-    {
-        other.version < self.version || (other.version == self.version && other.round < self.round)
-    }
+// Versions first, then rounds.
+fn is_later(mark: Mark, other: Mark) -> bool
+    ensures value { result ≡ later (mark_of mark) (mark_of other) }
+{
+    other.version < mark.version || (other.version == mark.version && other.round < mark.round)
+}
 
-    // Of the same version, and of the same round or a higher one.
-    pub fn reaches(self, mark: Mark) -> bool
-        ensures value { result ≡ reaches (mark_of mark) (mark_of self) }
-    {
-        self.version == mark.version && mark.round <= self.round
-    }
+// Of the same version, and of the same round or a higher one.
+fn is_as_far(latest: Mark, mark: Mark) -> bool
+    ensures value { result ≡ reaches (mark_of mark) (mark_of latest) }
+{
+    latest.version == mark.version && mark.round <= latest.round
 }
 
 impl Marks {
-    pub fn none() -> Marks
+    pub(crate) fn none() -> Marks
         ensures value { latest_of result ≡ no_marks }
     {
         Marks {
@@ -49,33 +44,25 @@ impl Marks {
         }
     }
 
-    pub fn latest(self, port: usize) -> Mark
-        ensures value { mark_of result ≡ latest_of self port }
+    // Keeps a mark that is later than the latest at its port.
+    pub(crate) fn keep(mut self, port: u8, mark: Mark) -> Marks
+        requires there { port < ports }
+        ensures after { latest_of result ≡ kept port (mark_of mark) (latest_of self) }
     {
-        if port < PORTS {
-            self.latest[port]
-        } else {
-            NO_MARK
-        }
-    }
-
-    // Keeps a mark that is later than the latest at its port. There is nothing to keep where there is no port.
-    pub fn keep(mut self, port: usize, mark: Mark) -> Marks
-        ensures after { port < ports → latest_of result ≡ kept port (mark_of mark) (latest_of self) }
-        ensures same { ports ≤ port → latest_of result ≡ latest_of self }
-    {
-        if port < PORTS && mark.is_later(self.latest[port]) {
-            self.latest[port] = mark;
+        if is_later(mark, self.latest[port as usize]) {
+            self.latest[port as usize] = mark;
         }
         self
     }
 
     // The latest marks at all ports with a cable have come as far as this one.
-    pub fn all_reached(self, mark: Mark, cables: &[bool]) -> bool
-        ensures value { (wire : ℕ → Wire) → Drawn cables.now wire → result ≡ all_reach (length cables.now) wire (mark_of mark) (latest_of self) }
+    pub(crate) fn all_reached(self, mark: Mark, me: u8, cables: &Cables) -> bool
+        ensures value { result ≡ all_reach (layout_of cables.now).ports (wires_at (layout_of cables.now) me) (mark_of mark) (latest_of self) }
     {
-        for port in 0..cables.len() {
-            if cables[port] && !self.latest(port).reaches(mark) {
+        for port in 0..cables.ports() {
+            if cables.wire(me, port as u16).is_cable()
+                && !is_as_far(self.latest[port as usize], mark)
+            {
                 return false;
             }
         }

@@ -1,18 +1,19 @@
 // What a switch makes of orders and marks, and which orders are done.
-ghost use Rattle.std.specs.Prelude.{◌≡◌, ℕ, ◌<◌, ◌≤◌, length, IfSome};
+ghost use Rattle.std.specs.Prelude.{◌≡◌, ◌<◌, IfSome};
 ghost use Rattle.packet.specs.Table.{Table};
-ghost use Rattle.run.specs.Net.{Wire};
-ghost use Rattle.run.specs.Order as order;
 ghost use Rattle.run.specs.Switch.{done, first_switch, keep_mark, remove, stamp_with};
-ghost use Rattle.switch.specs.Holding.{Places, slots};
-ghost use Rattle.switch.specs.Marking.{Drawn, mark_of, ports};
-ghost use Rattle.switch.specs.Model.{Lies, TookIn, switch_of};
+ghost use Rattle.wire.specs.Cables.{layout_of};
+ghost use Rattle.switch.specs.Holding.{Places};
+ghost use Rattle.switch.specs.Limits.{ports, slots};
+ghost use Rattle.switch.specs.Model.{Lies, Obeyed, TookIn, switch_of};
+ghost use Rattle.switch.specs.Ties.{mark_of, order_of, wires_at};
 
-use crate::{Mark, Marks, Switch, Versions};
+use crate::{Marks, Switch, Versions};
+use wire::{Cables, Mark, Order};
 
 // What comes of an install.
 #[derive(Clone, Copy)]
-pub enum Taken {
+pub(crate) enum Taken {
     // The version is below the floor or there: nothing is to be done.
     Ignored,
     // The switch afterwards, and the place that the table goes into.
@@ -34,20 +35,8 @@ impl Switch {
         }
     }
 
-    pub fn stamp(self) -> u16
-        ensures value { (tables : Places) → result ≡ (switch_of tables self).stamp }
-    {
-        self.stamp
-    }
-
-    pub fn floor(self) -> u16
-        ensures value { (tables : Places) → result ≡ (switch_of tables self).floor }
-    {
-        self.floor
-    }
-
     // The place in which the table of a version lies.
-    pub fn place(self, version: u16) -> Option<usize>
+    pub(crate) fn place(self, version: u16) -> Option<usize>
         ensures within { IfSome result (λ p. p < slots) }
         ensures cases { (tables : Places) → Lies version (switch_of tables self).held tables result }
     {
@@ -55,7 +44,7 @@ impl Switch {
     }
 
     // Takes in a version, unless it is below the floor or there.
-    pub fn install(self, version: u16) -> Taken
+    pub(crate) fn install(self, version: u16) -> Taken
         ensures after { TookIn version self result }
     {
         if version < self.floor || self.versions.knows(version) {
@@ -76,7 +65,7 @@ impl Switch {
     }
 
     // Gives the version to what comes in from outside, if it is above the stamp and its table is there.
-    pub fn stamp_with(self, version: u16) -> Switch
+    pub(crate) fn stamp_with(self, version: u16) -> Switch
         ensures after { (tables : Places) → switch_of tables result ≡ stamp_with version (switch_of tables self) }
     {
         if version <= self.stamp || !self.versions.knows(version) {
@@ -91,7 +80,7 @@ impl Switch {
     }
 
     // Throws a table below the stamp away, and raises the floor above its version.
-    pub fn remove(self, version: u16) -> Switch
+    pub(crate) fn remove(self, version: u16) -> Switch
         ensures after { (tables : Places) → switch_of tables result ≡ remove version (switch_of tables self) }
     {
         if version >= self.stamp {
@@ -110,10 +99,21 @@ impl Switch {
         }
     }
 
+    // Carries out an order that brings no table.
+    pub(crate) fn obey(self, order: Order) -> Switch
+        ensures after { Obeyed order self result }
+    {
+        match order {
+            Order::Stamp(v) => self.stamp_with(v),
+            Order::Remove(v) => self.remove(v),
+            Order::Install(_) | Order::Round(_, _) => self,
+        }
+    }
+
     // A mark came in at a port.
-    pub fn keep_mark(self, port: usize, mark: Mark) -> Switch
-        ensures after { port < ports → (tables : Places) → switch_of tables result ≡ keep_mark port (mark_of mark) (switch_of tables self) }
-        ensures same { ports ≤ port → (tables : Places) → switch_of tables result ≡ switch_of tables self }
+    pub(crate) fn keep_mark(self, port: u8, mark: Mark) -> Switch
+        requires there { port < ports }
+        ensures after { (tables : Places) → switch_of tables result ≡ keep_mark port (mark_of mark) (switch_of tables self) }
     {
         Switch {
             stamp: self.stamp,
@@ -123,28 +123,17 @@ impl Switch {
         }
     }
 
-    pub fn has_installed(self, version: u16) -> bool
-        ensures value { (tables : Places) (n : ℕ) (wire : ℕ → Wire) (t : Table) → result ≡ done n wire (order.Install version t) (switch_of tables self) }
+    // Whether an order is done now.
+    pub(crate) fn has_done(self, order: Order, me: u8, cables: &Cables) -> bool
+        ensures value { (tables : Places) (t : Table) → result ≡ done (layout_of cables.now).ports (wires_at (layout_of cables.now) me) (order_of t order) (switch_of tables self) }
     {
-        self.versions.knows(version)
-    }
-
-    pub fn has_stamped(self, version: u16) -> bool
-        ensures value { (tables : Places) (n : ℕ) (wire : ℕ → Wire) → result ≡ done n wire (order.Stamp version) (switch_of tables self) }
-    {
-        self.stamp == version
-    }
-
-    // `cables`: which ports have one.
-    pub fn has_reached(self, mark: Mark, cables: &[bool]) -> bool
-        ensures value { (tables : Places) (wire : ℕ → Wire) → Drawn cables.now wire → result ≡ done (length cables.now) wire (order.Round mark.version mark.round) (switch_of tables self) }
-    {
-        self.marks.all_reached(mark, cables)
-    }
-
-    pub fn has_removed(self, version: u16) -> bool
-        ensures value { (tables : Places) (n : ℕ) (wire : ℕ → Wire) → result ≡ done n wire (order.Remove version) (switch_of tables self) }
-    {
-        !self.versions.knows(version)
+        match order {
+            Order::Install(v) => self.versions.knows(v),
+            Order::Stamp(v) => self.stamp == v,
+            Order::Round(version, round) => self
+                .marks
+                .all_reached(Mark { version, round }, me, cables),
+            Order::Remove(v) => !self.versions.knows(v),
+        }
     }
 }

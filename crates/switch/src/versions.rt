@@ -1,17 +1,18 @@
 // The versions whose tables a switch holds, in the order in which they came, and the place in which each table lies.
 ghost use Rattle.std.specs.Prelude.{◌≡◌, ◌≤◌, true, take};
-ghost use Rattle.switch.specs.Holding.{placed, slots};
+ghost use Rattle.switch.specs.Holding.{placed};
+ghost use Rattle.switch.specs.Limits.{slots};
 
 mod calls;
 mod held;
 
-pub use held::Held;
+pub(crate) use held::Held;
 
 // The versions that a switch can hold at once.
 pub const SLOTS: usize = 2;
 
 #[derive(Clone, Copy)]
-pub struct Versions {
+pub(crate) struct Versions {
     held: [Held; SLOTS],
     count: usize,
     ghost few: { count ≤ slots },

@@ -1,4 +1,4 @@
 mod Filling
 mod Sizes
 mod Storing
-mod Trips
+pub mod Trips

@@ -1,10 +1,11 @@
 -- How many words a table has at most.
-use Rattle.std.proofs.Common.{ℕ, ◌*◌, ◌≤◌, List, [], ◌∷◌, length, mul-suc, arith}
+use Rattle.std.proofs.Common.{ℕ, ◌*◌, ◌≤◌, List, [], ◌∷◌, length, subst, mul-suc, arith}
 use Rattle.std.specs.List.{flat_map}
 use Rattle.std.proofs.lemmas.List.{length-append}
-use Rattle.packet.specs.Table.{Setting, Rule}
-use Rattle.table.specs.Good.{Each, GoodWant, GoodSetting, GoodOut, GoodRule}
-use Rattle.table.specs.Words.{want_words, setting_words, wants_words, out_words, outs_words, rule_words}
+use Rattle.packet.specs.Table.{Setting, Rule, Table}
+use Rattle.table.specs.Good.{Each, GoodWant, GoodSetting, GoodOut, GoodRule, Good}
+use Rattle.table.specs.Words.{want_words, setting_words, wants_words, out_words, outs_words, rule_words, encode, rules_of, Sound}
+use Rattle.table.proofs.Encoding as layout
 use Rattle.tablebytes.specs.Laws.{Enough}
 use Rattle.tablebytes.proofs.Trips.{table_good}
 
@@ -27,5 +28,12 @@ rule_most r g =
       length-append (wants_words r.wants) (outs_words r.outs),
     )
 
+table_most : (t : Table) → Good t → length (encode t) ≤ 593920
+table_most t g = omega (arith, g.few, joined_most rule_words GoodRule 290 rule_most t g.rules)
+
 pub enough : Enough
-enough bs rest t e = let g = table_good bs t rest e in omega (arith, g.few, joined_most rule_words GoodRule 290 rule_most t g.rules)
+enough bs rest t e = table_most t (table_good bs t rest e)
+
+-- the words of any table
+pub sound_most : (ws : List ℕ) → Sound ws → length ws ≤ 593920
+sound_most ws s = let law = layout.writes_back ws s in subst (λ l. length l ≤ 593920) law.1 (table_most (rules_of ws) law.0)

@@ -1,19 +1,17 @@
--- A table that was measured is read again, and its words fill the front.
-use Rattle.std.proofs.Common.{◌≡◌, ℕ, suc, ◌+◌, ◌≤◌, Bool, true, leb, List, [], ◌∷◌, ◌++◌, length, take, drop, set, IfOk, Ok, Err, MatchBool, Result, sym, ap, ◌∙◌, subst, add-zero, zero-add, arith}
-use Rattle.std.proofs.lemmas.List.{append_assoc, length-set, take-append-drop, take_more_set, drop-set-lt, take_at}
-use Rattle.std.proofs.lemmas.Bool.{le-leb}
+-- A table that was measured is read again, and its words take the place of what was there.
+use Rattle.std.proofs.Common.{◌≡◌, ℕ, suc, ◌+◌, ◌≤◌, Bool, true, cond, List, [], ◌∷◌, ◌++◌, length, take, drop, set, Ok, Err, Result, sym, refl, ap, ◌∙◌, subst, add-zero, arith}
+use Rattle.std.proofs.lemmas.List.{append_assoc, append-nil, length-set, take-append-drop, take_more_set, drop-set-lt, drop_all}
 use Rattle.octets.specs.Parse.{Got, Read, Bad, and_then, ended}
 use Rattle.octets.specs.declared.fault.Fault.{Fault}
 use Rattle.octets.proofs.Streams.{never}
 use Rattle.packet.specs.Table.{Table}
-use Rattle.table.specs.Words.{Sound, rules_of, encode}
+use Rattle.table.specs.Words.{Sound, sound, sound_from, rules_of, rules_from, encode}
 use Rattle.table.proofs.Encoding as layout
-use Rattle.tablebytes.specs.Filled.{written, Filled, Gave, Stored, sized}
+use Rattle.tablebytes.specs.declared.place.Place.{Place}
+use Rattle.tablebytes.specs.Filled.{written, Filled, Gave, coded, sized}
 use Rattle.tablebytes.specs.Format.{table, alone}
+use Rattle.tablebytes.specs.Places.{Stored, rules_in}
 use Rattle.tablebytes.proofs.Trips.{table_good}
-
-when-so : (P Q : Type 0) (b : Bool) → b ≡ true → P → MatchBool b P Q
-when-so P Q b e p = subst (λ v. MatchBool v P Q) (sym e) p
 
 -- where there is room for all the words, they stand between what was there
 written_between : (out : List ℕ) (at : ℕ) (ws : List ℕ) → at + length ws ≤ length out → written out at ws ≡ take at out ++ (ws ++ drop (at + length ws) out)
@@ -24,46 +22,54 @@ written_between out at (w ∷ ws) le =
     ∙ (λ i. take_more_set out at w (omega arith) i ++ (ws ++ drop-set-lt (at + 1 + length ws) out at w (omega arith) i))
     ∙ append_assoc (take at out) (w ∷ []) (ws ++ drop (at + 1 + length ws) out) ∙ ap (λ k. take at out ++ (w ∷ (ws ++ drop k out))) far
 
-pub record Sized (got : Got Table) (n : ℕ) (left : List ℕ) : Type 0 where
+pub record Sized (bs : List ℕ) (n : ℕ) : Type 0 where
   pub what : Table
-  pub read : got ≡ Read what left
+  pub read : table bs ≡ Read what []
   pub long : n ≡ length (encode what)
 
-pub sized_is : (got : Got Table) (n : ℕ) (left : List ℕ) → Read n left ≡ sized got → Sized got n left
-sized_is (Read t rest) n left e =
-    let same : n ≡ length (encode t) = cc in
-    let end : rest ≡ left = cc in
-    record { what = t; read = ap (Read t) end; long = same }
-sized_is (Bad m) n left e = never (sym e)
+pub sized_is : (bs : List ℕ) (n : ℕ) → Read n [] ≡ sized (alone bs) → Sized bs n
+sized_is bs n e = go (table bs) refl e
+  where
+    go : (got : Got Table) → table bs ≡ got → Read n [] ≡ sized (and_then got ended) → Sized bs n
+    go (Read t []) is h = let same : n ≡ length (encode t) = cc in record { what = t; read = is; long = same }
+    go (Read t (b ∷ rest)) is h = never (sym h)
+    go (Bad m) is h = never (sym h)
 
-module _ (bs left before after : List ℕ) (t : Table) (is : table bs ≡ Read t []) where
-  all : alone bs ≡ Read t []
-  all = ap (λ g. and_then g ended) is
+-- a table of just as many words as there are is read into them
+pub refilled : (bs left before after : List ℕ) (n : ℕ) (r : Result ℕ Fault) → Sized bs n → Gave encode (table bs) left 0 before after r → length before ≡ n → coded (alone bs) ≡ Read after []
+refilled bs left before after n (Ok end) s f size =
+    let same : s.what ≡ f.what = (let e : Read s.what [] ≡ Read f.what left = sym s.read ∙ f.read in cc) in
+    let fits : 0 + length (encode s.what) ≤ length before = omega (arith, s.long) in
+    let none : drop (0 + length (encode s.what)) before ≡ [] = drop_all (0 + length (encode s.what)) before (omega (arith, s.long)) in
+    let words : after ≡ encode s.what =
+    f.words ∙ ap (λ u. written before 0 (encode u)) (sym same) ∙ written_between before 0 (encode s.what) fits
+    ∙ ap (λ l. encode s.what ++ l) none ∙ append-nil (encode s.what) in
+    ap (λ g. coded (and_then g ended)) s.read ∙ ap (λ l. Read l []) (sym words)
+refilled bs left before after n (Err fault) s e size = never (sym e ∙ s.read)
 
-  same-table : (end : ℕ) → (f : Filled encode (table bs) left 0 before after end) → t ≡ f.what
-  same-table end f = let e : Read t [] ≡ Read f.what left = sym is ∙ f.read in cc
+-- the words of a table that was read are sound, and it stands in them
+pub record Stands (bs ws : List ℕ) : Type 0 where
+  pub sound : Sound ws
+  pub read : alone bs ≡ Read (rules_of ws) []
 
-  front : (end : ℕ) → Filled encode (table bs) left 0 before after end → length (encode t) ≤ length before → (end ≡ length (encode t)) × (after ≡ encode t ++ drop (length (encode t)) before)
-  front end f room =
-      let same = same-table end f in (
-        omega (arith, f.place, ap (λ u. length (encode u)) same),
-        f.words ∙ ap (λ u. written before 0 (encode u)) (sym same) ∙ written_between before 0 (encode t) (omega arith)
-            ∙ ap (λ k. encode t ++ drop k before) (zero-add (length (encode t))),
-      )
+pub stands : (bs ws : List ℕ) → coded (alone bs) ≡ Read ws [] → Stands bs ws
+stands bs ws e = go (table bs) refl e
+  where
+    go : (got : Got Table) → table bs ≡ got → coded (and_then got ended) ≡ Read ws [] → Stands bs ws
+    go (Read t []) is h =
+        let words : encode t ≡ ws = cc in
+        let law = layout.reads_back t (table_good bs t [] is) in
+        record { sound = subst Sound words law.0; read = ap (λ g. and_then g ended) is ∙ ap (λ u. Read u []) (sym (ap rules_of (sym words) ∙ law.1)) }
+    go (Read t (b ∷ rest)) is h = never h
+    go (Bad m) is h = never h
 
-  pub stored : (r : Result ℕ Fault) → Gave encode (table bs) left 0 before after r → length (encode t) ≤ length before → Stored (alone bs) before after r
-  stored (Ok end) f room =
-      let p = front end f room in
-      let n = length (encode t) in
-      let fits = le-leb n (length before) room in
-      subst (λ g. Stored g before after (Ok end)) (sym all) (when-so _ _ (leb n (length before)) fits (ap Ok p.0, p.1))
-  stored (Err fault) e room = never (sym e ∙ is)
+pub stored : (bs : List ℕ) (before after : Place) → alone bs ≡ Read (rules_in after) [] → Stored (alone bs) before after (Ok tt)
+stored bs before after e = subst (λ g. Stored g before after (Ok tt)) (sym e) refl
 
-  pub stands : (r : Result ℕ Fault) → Gave encode (table bs) left 0 before after r → length (encode t) ≤ length before →
-      IfOk r (λ n. Sound (take n after) × (alone bs ≡ Read (rules_of (take n after)) []))
-  stands (Ok end) f room =
-      let p = front end f room in
-      let law = layout.reads_back t (table_good bs t [] is) in
-      let words : take end after ≡ encode t = ap (take end) p.1 ∙ take_at (encode t) _ end (sym p.0) in
-      (subst Sound (sym words) law.0, all ∙ ap (λ u. Read u []) (sym (ap rules_of words ∙ law.1)))
-  stands (Err fault) e room = never (sym e ∙ is)
+pub no_words : (ws : List ℕ) → ws ≡ [] → Sound ws × (rules_of ws ≡ [])
+unfolding sound_from rules_from
+no_words ws e = (ap sound e, ap rules_of e)
+
+-- what was there is cut off, and the words are put behind it
+pub only_these : (was none more now : List ℕ) (done : Bool) → none ≡ take 0 was → now ≡ cond done (none ++ more) none → done ≡ true → now ≡ more
+only_these was none more now done cut put e = put ∙ ap (λ b. cond b (none ++ more) none) e ∙ ap (λ l. l ++ more) cut

@@ -1,3 +1,5 @@
 pub mod Filled
 pub mod Format
 pub mod Laws
+pub mod Places
+pub mod Sizes

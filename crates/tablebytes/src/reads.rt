@@ -1,11 +1,11 @@
 // Reading a table from bytes, to its end or its first fault. Each reader writes the words of what it reads from the place `at`
 // on, and answers the place behind them.
-ghost use Rattle.std.specs.Prelude.{◌≡◌, ◌+◌, ◌*◌, ◌≤◌, [], take, IfOk, slice_set};
+ghost use Rattle.std.specs.Prelude.{◌≡◌, ◌+◌, ◌*◌, ◌≤◌, [], IfOk, vec_capacity, slice_set};
 ghost use Rattle.std.specs.List.{flat_map};
 ghost use Rattle.octets.specs.Parse.{Read};
 ghost use Rattle.octets.specs.Readers.{told, rest};
-ghost use Rattle.table.specs.Words.{want_words, setting_words, wants_words, out_words, outs_words, rule_words, encode, Sound, rules_of};
-ghost use Rattle.tablebytes.specs.Filled.{Gave, Stored, sized};
+ghost use Rattle.table.specs.Words.{want_words, setting_words, wants_words, out_words, outs_words, rule_words, encode};
+ghost use Rattle.tablebytes.specs.Filled.{Gave, coded, sized};
 ghost use Rattle.tablebytes.specs.Format as spec;
 ghost use Rattle.tablebytes.specs.Laws as laws;
 
@@ -179,7 +179,7 @@ fn fill(c: &mut Cursor, out: &mut [u16]) -> Result<usize, Fault>
 }
 
 // How many words the table wants that comes next. It is read to its end, and no word is written.
-pub fn measure(c: &mut Cursor) -> Result<usize, Fault>
+fn measure_next(c: &mut Cursor) -> Result<usize, Fault>
     ensures value { told result (rest c.new) ≡ sized (spec.table (rest c.old)) }
     ensures few { IfOk result (λ n. n ≤ 593920) }
 {
@@ -187,25 +187,29 @@ pub fn measure(c: &mut Cursor) -> Result<usize, Fault>
     fill(c, &mut none)
 }
 
-// Reads a table with nothing behind it into the words, and answers how many it takes. A table that is refused, or for
-// which there are too few words, changes none of them.
-pub fn read(bytes: &[u8], words: &mut [u16]) -> Result<usize, Fault>
-    ensures cases { Stored (spec.alone bytes.now) words.old words.new result }
-    ensures table { IfOk result (λ n. Sound (take n words.new) × (spec.alone bytes.now ≡ Read (rules_of (take n words.new)) [])) }
+// How many words the table wants that the bytes are, with nothing behind it.
+pub fn measure(bytes: &[u8]) -> Result<usize, Fault>
+    ensures value { told result [] ≡ sized (spec.alone bytes.now) }
+    ensures few { IfOk result (λ n. n ≤ 593920) }
 {
     let mut c = Cursor::new(bytes);
-    let n = match measure(&mut c) {
-        Ok(n) => n,
-        Err(fault) => return Err(fault),
-    };
+    let n = measure_next(&mut c)?;
     if !c.is_done() {
         return Err(Fault::Form);
     }
-    if words.len() < n {
-        return Err(Fault::Memory);
-    }
-    let mut again = Cursor::new(bytes);
-    fill(&mut again, words)
+    Ok(n)
+}
+
+// Puts the words of a table that was measured in the place of what is there.
+pub(crate) fn refill(words: &mut Vec<u16>, bytes: &[u8], n: usize)
+    requires size { Read n [] ≡ sized (spec.alone bytes.now) }
+    requires room { n ≤ vec_capacity words.old }
+    ensures items { coded (spec.alone bytes.now) ≡ Read words.new.items [] }
+    ensures capacity { vec_capacity words.old ≤ vec_capacity words.new }
+{
+    let _ = words.resize(n, 0);
+    let mut c = Cursor::new(bytes);
+    let _ = fill(&mut c, words.as_mut_slice());
 }
 
 // What reading and writing have to do with each other.

@@ -1,10 +1,11 @@
 -- A board that is changed at one place.
-use Rattle.std.proofs.Common.{◌≡◌, ℕ, zero, suc, ◌+◌, ◌*◌, ◌<◌, Bool, true, false, cond, ◌&&◌, eqb, ltb, ◌≢◌, List, length, get_or, set, replicate, sym, refl, ap, ◌∙◌, ⊎_elim, arith}
+use Rattle.std.proofs.Common.{◌≡◌, ℕ, zero, suc, ◌+◌, ◌*◌, ◌<◌, ◌≤◌, Bool, true, false, cond, ◌&&◌, eqb, ltb, ◌≢◌, ◌⊎◌, List, length, get_or, set, replicate, sym, refl, ap, ◌∙◌, ⊎_elim, arith}
 use Rattle.std.proofs.lemmas.List.{get_or-set_same, get_or-set_other}
-use Rattle.std.proofs.lemmas.Bool.{cases_Bool, and_parts, and_from, and_cases, eqb-true, eqb-false, eq-eqb, ltb-true, lt-ltb, cond-true, cond-false}
+use Rattle.std.proofs.lemmas.Bool.{cases_Bool, and_parts, and_from, and_cases, eqb-true, eqb-false, eq-eqb, ltb-true, lt-ltb, le-ltb, cond-true, cond-false}
 use Rattle.wire.specs.declared.board.Wire.{Wire}
-use Rattle.wire.specs.declared.board.Wire.TheVariants.{Nothing}
-use Rattle.wire.specs.Wires.{Wires, bare, put, wires_of}
+use Rattle.wire.specs.declared.board.Wire.TheVariants.{Nothing, Outside, To}
+use Rattle.wire.specs.declared.board.Board.{Board}
+use Rattle.wire.specs.Wires.{Wires, bare, put, is_free, wires_of}
 
 get_d_bare : (n k : ℕ) → get_or (replicate n Nothing) k Nothing ≡ Nothing
 get_d_bare zero k = refl
@@ -27,7 +28,7 @@ pub put_here : (i p : ℕ) (x : Wire) (w : Wires) → put i p x w i p ≡ x
 put_here i p x w = cond-true (eqb i i && eqb p p) x (w i p) (and_from (eqb i i) (eqb p p) (eq-eqb i i refl) (eq-eqb p p refl))
 
 -- two places are one only for one port
-apart : (i p j q : ℕ) → p < 32 → q < 32 → (eqb j i && eqb q p) ≡ false → j * 32 + q ≢ i * 32 + p
+pub apart : (i p j q : ℕ) → p < 32 → q < 32 → (eqb j i && eqb q p) ≡ false → j * 32 + q ≢ i * 32 + p
 apart i p j q lp lq f e =
     ⊎_elim (λ n. eqb-false j i n (omega (arith, e))) (λ n. eqb-false q p n (omega (arith, e))) (and_cases (eqb j i) (eqb q p) f)
 
@@ -53,3 +54,16 @@ module _ (ws : List Wire) (i p : ℕ) (x : Wire) where
 
   pub put_board : length ws ≡ 768 → i < 24 → p < 32 → wires_of (record { wires = set ws (i * 32 + p) x }) ≡ put i p x (wires_of (record { wires = ws }))
   put_board len li lp z j q = changed len li lp j q z
+
+and_false : (b : Bool) → (b && false) ≡ false
+and_false true = refl
+and_false false = refl
+
+-- a port that is not there has nothing on it
+pub past_board : (b : Board) (i p : ℕ) → 32 ≤ p → wires_of b i p ≡ Nothing
+past_board b i p le =
+    ap (λ t. cond (ltb i 24 && t) (get_or b.wires (i * 32 + p) Nothing) Nothing) (le-ltb p 32 le)
+    ∙ ap (λ t. cond t (get_or b.wires (i * 32 + p) Nothing) Nothing) (and_false (ltb i 24))
+
+pub nothing_free : is_free Nothing ≡ false → ⊥
+nothing_free e = let z : ◌≡◌ {A = ℕ} 0 1 = cc in omega arith

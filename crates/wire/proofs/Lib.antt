@@ -1,5 +1,5 @@
-mod Boards
-mod Fields
+pub mod Boards
+pub mod Fields
 mod Formats
 pub mod Linked
 pub mod Listed

@@ -3,7 +3,7 @@ use Rattle.std.proofs.Common.{◌≡◌, ℕ, zero, suc, ◌+◌, ◌-◌, ◌*�
 use Rattle.std.specs.List.{flat_map}
 use Rattle.std.proofs.lemmas.List.{append-nil, append_assoc}
 use Rattle.std.proofs.lemmas.Bool.{and_parts, lt-ltb, le-leb, ltb-true, leb-true, eqb-true, eq-eqb}
-use Rattle.octets.specs.Parse.{Read, and_then, byte, word, word_bytes}
+use Rattle.octets.specs.Parse.{Got, Read, Bad, and_then, check, byte, word, word_bytes}
 use Rattle.octets.specs.Streams.{Streams}
 use Rattle.octets.proofs.Streams.{streams_read, streams_bad, streams_byte, streams_word, streams_cond, streams_then}
 use Rattle.octets.proofs.Spells.{Spells, spells_read, spells_byte, spells_word, spells_cond, spells_then}
@@ -12,13 +12,18 @@ use Rattle.wire.specs.declared.order.Order.{Order}
 use Rattle.wire.specs.declared.order.Order.TheVariants.{Install, Stamp, Round, Remove}
 use Rattle.wire.specs.declared.order.Message.{Message}
 use Rattle.wire.specs.declared.order.Message.TheVariants.{Ask, Answer}
+use Rattle.wire.specs.declared.order.Reader.{Reader}
+use Rattle.wire.specs.declared.order.Reader.TheVariants.{Switch, Desk}
 use Rattle.wire.specs.declared.order.Letter.{Letter}
+use Rattle.wire.specs.declared.board.Wire.{Wire}
 use Rattle.wire.specs.declared.mark.Mark.{Mark}
+use Rattle.wire.specs.declared.frame.Frame.{Frame}
 use Rattle.wire.specs.Numbers.{tested, kind, between, below}
 use Rattle.wire.specs.Orders.{kind_of, version_of, round_of, order_of, round_for, order, sent, of_kind, order_in, order_bytes, letter, letter_bytes}
 use Rattle.wire.specs.Marks.{mark, mark_bytes}
-use Rattle.wire.specs.Frames.{fields, entry, framed, cabled, frame_bytes}
-use Rattle.wire.specs.Laws.{Rounded, GoodLetter, GoodMark, GoodFrame, Kinds, Orders, Marks, Frames, Outside}
+use Rattle.wire.specs.Frames.{fields, entry, entrance, framed, cabled, outside, frame_bytes, plain}
+use Rattle.wire.specs.Wires.{is_outside}
+use Rattle.wire.specs.Laws.{For, Rounded, GoodLetter, GoodMark, GoodFrame, GoodPacket, Kinds, Orders, Marks, Frames, Plain, Outside}
 use Rattle.wire.proofs.Formats.{streams_tested, spells_tested, yields_tested, Fine, fine_end, fine_bad, fine_cond, fine_on, exact}
 
 word_joined : (v : ℕ) → v / 256 * 256 + v % 256 ≡ v
@@ -83,27 +88,29 @@ module _ (n h : ℕ) where
   order_back (Round v m) i rest lt f = rw (le-leb 1 m f.0, le-leb m h f.1, word_joined v, lt-ltb i n lt)
   order_back (Remove v) i rest lt f = rw (word_joined v, lt-ltb i n lt)
 
-  letter_back : (l : Letter) (rest : List ℕ) → GoodLetter n h l → letter n h (letter_bytes l ++ rest) ≡ Read l rest
-  letter_back l rest g = go l.message l.switch g.there g.rounded
+  letter_back : (reader : Reader) (l : Letter) (rest : List ℕ) → GoodLetter reader n h l → letter reader n h (letter_bytes l ++ rest) ≡ Read l rest
+  letter_back reader l rest g = go reader l.message l.switch g.for g.there g.rounded
     where
       asked : (o : Order) (i : ℕ) → order n h (kind_of o) (order_bytes o i ++ rest) ≡ Read (o, i) rest →
-          letter n h (letter_bytes (sent Ask (o, i)) ++ rest) ≡ Read (sent Ask (o, i)) rest
+          letter Switch n h (letter_bytes (sent Ask (o, i)) ++ rest) ≡ Read (sent Ask (o, i)) rest
       asked (Install v) i e = ap (λ g. and_then g (λ o r. Read (sent Ask o) r)) e
       asked (Stamp v) i e = ap (λ g. and_then g (λ o r. Read (sent Ask o) r)) e
       asked (Round v m) i e = ap (λ g. and_then g (λ o r. Read (sent Ask o) r)) e
       asked (Remove v) i e = ap (λ g. and_then g (λ o r. Read (sent Ask o) r)) e
 
       answered : (o : Order) (i : ℕ) → order n h (kind_of o) (order_bytes o i ++ rest) ≡ Read (o, i) rest →
-          letter n h (letter_bytes (sent Answer (o, i)) ++ rest) ≡ Read (sent Answer (o, i)) rest
+          letter Desk n h (letter_bytes (sent Answer (o, i)) ++ rest) ≡ Read (sent Answer (o, i)) rest
       answered (Install v) i e = ap (λ g. and_then g (λ o r. Read (sent Answer o) r)) e
       answered (Stamp v) i e = ap (λ g. and_then g (λ o r. Read (sent Answer o) r)) e
       answered (Round v m) i e = ap (λ g. and_then g (λ o r. Read (sent Answer o) r)) e
       answered (Remove v) i e = ap (λ g. and_then g (λ o r. Read (sent Answer o) r)) e
 
-      go : (m : Message) (i : ℕ) → i < n → Rounded h (order_in m) →
-          letter n h (letter_bytes (record { message = m; switch = i }) ++ rest) ≡ Read (record { message = m; switch = i }) rest
-      go (Ask o) i lt f = asked o i (order_back o i rest lt f)
-      go (Answer o) i lt f = answered o i (order_back o i rest lt f)
+      go : (who : Reader) (m : Message) (i : ℕ) → For who m → i < n → Rounded h (order_in m) →
+          letter who n h (letter_bytes (record { message = m; switch = i }) ++ rest) ≡ Read (record { message = m; switch = i }) rest
+      go Switch (Ask o) i for lt f = asked o i (order_back o i rest lt f)
+      go Switch (Answer o) i for lt f = absurd for
+      go Desk (Ask o) i for lt f = absurd for
+      go Desk (Answer o) i for lt f = answered o i (order_back o i rest lt f)
 
   streams_round : (k : ℕ) → Streams (round_for h k)
   streams_round k = streams_cond (eqb k 2) _ _ (streams_byte_tested (λ m. leb 1 m && leb m h) 2) (streams_byte_tested (λ m. leb 0 m && leb m 0) 2)
@@ -146,31 +153,41 @@ module _ (n h : ℕ) where
   streams_sent : (make : Order → Message) (k : ℕ) → Streams (λ bs. and_then (order n h k bs) (λ o r. Read (sent make o) r))
   streams_sent make k = streams_then (order n h k) _ (streams_order k) (λ o. streams_read (sent make o))
 
-  streams_letter : Streams (letter n h)
-  streams_letter =
-      streams_then byte (of_kind n h) streams_byte (λ k.
-      streams_cond (leb 16 k && leb k 19) _ _ (streams_sent Ask (k - 16))
-      (streams_cond (leb 48 k && leb k 51) _ _ (streams_sent Answer (k - 48)) (streams_bad 1)))
+  streams_letter : (reader : Reader) → Streams (letter reader n h)
+  streams_letter Switch =
+      streams_then byte (of_kind Switch n h) streams_byte (λ k. streams_cond (leb 16 k && leb k 19) _ _ (streams_sent Ask (k - 16)) (streams_bad 1))
+  streams_letter Desk =
+      streams_then byte (of_kind Desk n h) streams_byte (λ k. streams_cond (leb 48 k && leb k 51) _ _ (streams_sent Answer (k - 48)) (streams_bad 1))
 
-  fine_sent : (make : Order → Message) (b k : ℕ) → (b ≤ k) → (k - b < 4) →
-      ((o : Order × ℕ) → (b + kind_of o.0) ∷ written o ≡ letter_bytes (sent make o)) → ((o : Order) → order_in (make o) ≡ o) →
-      Fine (one k) letter_bytes (GoodLetter n h) (λ bs. and_then (order n h (k - b) bs) (λ o r. Read (sent make o) r))
-  fine_sent make b k le lt is inside =
+  fine_sent : (reader : Reader) (make : Order → Message) (b k : ℕ) → (b ≤ k) → (k - b < 4) →
+      ((o : Order × ℕ) → (b + kind_of o.0) ∷ written o ≡ letter_bytes (sent make o)) → ((o : Order) → order_in (make o) ≡ o) → ((o : Order) → For reader (make o)) →
+      Fine (one k) letter_bytes (GoodLetter reader n h) (λ bs. and_then (order n h (k - b) bs) (λ o r. Read (sent make o) r))
+  fine_sent reader make b k le lt is inside for =
       let part = fine_order (k - b) lt in
-      fine_on letter_bytes (GoodLetter n h) (one k) written (Kept (k - b)) (order n h (k - b)) _ part.spells part.yields (λ o kept.
+      fine_on letter_bytes (GoodLetter reader n h) (one k) written (Kept (k - b)) (order n h (k - b)) _ part.spells part.yields (λ o kept.
       let same : k ≡ b + kind_of o.0 = omega (arith, kept.kind) in
-      fine_end letter_bytes (GoodLetter n h) (k ∷ written o) (sent make o) (ap (λ z. z ∷ written o) same ∙ is o)
-      (record { there = kept.there; rounded = subst (Rounded h) (sym (inside o.0)) kept.rounded }))
+      fine_end letter_bytes (GoodLetter reader n h) (k ∷ written o) (sent make o) (ap (λ z. z ∷ written o) same ∙ is o)
+      (record { for = for o.0; there = kept.there; rounded = subst (Rounded h) (sym (inside o.0)) kept.rounded }))
 
-  fine_letter : Fine [] letter_bytes (GoodLetter n h) (letter n h)
-  fine_letter =
-      fine_on letter_bytes (GoodLetter n h) [] one (λ k. Unit {0}) byte (of_kind n h) spells_byte (yields_any byte) (λ k _.
-      fine_cond letter_bytes (GoodLetter n h) (one k) (leb 16 k && leb k 19) _ _ (λ t. let p = in_range_lem 16 19 k t in fine_sent Ask 16 k p.0 (omega (arith, p.0, p.1)) (λ o. refl) (λ o. refl))
-      (fine_cond letter_bytes (GoodLetter n h) (one k) (leb 48 k && leb k 51) _ _ (λ t. let p = in_range_lem 48 51 k t in fine_sent Answer 48 k p.0 (omega (arith, p.0, p.1)) (λ o. refl) (λ o. refl))
-      (fine_bad letter_bytes (GoodLetter n h) (one k) 1)))
+  -- the kinds of one sort, from b to t
+  fine_kinds : (reader : Reader) (make : Order → Message) (b t : ℕ) → t ≡ b + 3 →
+      ((o : Order × ℕ) → (b + kind_of o.0) ∷ written o ≡ letter_bytes (sent make o)) → ((o : Order) → order_in (make o) ≡ o) → ((o : Order) → For reader (make o)) →
+      (k : ℕ) → Fine (one k) letter_bytes (GoodLetter reader n h) (λ bs. cond (leb b k && leb k t) (and_then (order n h (k - b) bs) (λ o r. Read (sent make o) r)) (Bad 1))
+  fine_kinds reader make b t four is inside for k =
+      fine_cond letter_bytes (GoodLetter reader n h) (one k) (leb b k && leb k t) _ _
+      (λ e. let p = in_range_lem b t k e in fine_sent reader make b k p.0 (omega (arith, p.0, p.1)) is inside for)
+      (fine_bad letter_bytes (GoodLetter reader n h) (one k) 1)
+
+  fine_letter : (reader : Reader) → Fine [] letter_bytes (GoodLetter reader n h) (letter reader n h)
+  fine_letter Switch =
+      fine_on letter_bytes (GoodLetter Switch n h) [] one (λ k. Unit {0}) byte (of_kind Switch n h) spells_byte (yields_any byte)
+      (λ k _. fine_kinds Switch Ask 16 19 refl (λ o. refl) (λ o. refl) (λ o. tt) k)
+  fine_letter Desk =
+      fine_on letter_bytes (GoodLetter Desk n h) [] one (λ k. Unit {0}) byte (of_kind Desk n h) spells_byte (yields_any byte)
+      (λ k _. fine_kinds Desk Answer 48 51 refl (λ o. refl) (λ o. refl) (λ o. tt) k)
 
 pub orders : Orders
-orders n h = exact (letter n h) letter_bytes (GoodLetter n h) (streams_letter n h) (fine_letter n h) (letter_back n h)
+orders reader n h = exact (letter reader n h) letter_bytes (GoodLetter reader n h) (streams_letter n h reader) (fine_letter n h reader) (letter_back n h reader)
 
 -- Marks.
 mark_back : (h : ℕ) (m : Mark) (rest : List ℕ) → GoodMark h m → mark h (mark_bytes m ++ rest) ≡ Read m rest
@@ -275,7 +292,47 @@ frames h port =
     exact (cabled h port) frame_bytes (GoodFrame h port) (streams_frame h port) (fine_frame h port)
     (λ f rest g. first_back h port f.version f.hops f.packet.fields rest g.eight g.entry g.few)
 
+-- Any frame.
+plain_back : (v t : ℕ) (ps rest : List ℕ) → length ps ≡ 8 → plain (frame_bytes (framed v t ps) ++ rest) ≡ Read (framed v t ps) rest
+plain_back v t ps rest e =
+    rw (word_joined v)
+    (ap (λ g. and_then g (λ all r. Read (framed v t all) r)) (subst (λ k. fields k [] (flat_map word_bytes ps ++ rest) ≡ Read ps rest) e (fields_back [] ps rest)))
+
+pub any_frame : Plain
+any_frame f rest e = plain_back f.version f.hops f.packet.fields rest e
+
+-- Packets from outside.
+outside_back : (wire : ℕ → Wire) (v t : ℕ) (ps rest : List ℕ) → length ps ≡ 8 → is_outside (wire (get_or ps 0 0)) ≡ true →
+    outside wire (frame_bytes (framed v t ps) ++ rest) ≡ Read (record { fields = ps }) rest
+outside_back wire v t [] rest e i = absurd (omega (arith, e))
+outside_back wire v t (x ∷ ps) rest e i =
+    let seven : length ps ≡ 7 = omega (arith, e) in
+    rw (word_joined x, i)
+    (ap (λ g. and_then g (λ all r. Read (record { fields = all }) r)) (subst (λ k. fields k (x ∷ []) (flat_map word_bytes ps ++ rest) ≡ Read (x ∷ ps) rest) seven (fields_back (x ∷ []) ps rest)))
+
+outside_only : (wire : ℕ → Wire) → Yields (outside wire) (GoodPacket wire)
+outside_only wire =
+    yields_then (λ k. Unit {0}) _ (kind 64) _ (yields_any (kind 64)) (λ k _.
+    yields_then (λ v. Unit {0}) _ word _ (yields_any word) (λ v _.
+    yields_then (λ t. Unit {0}) _ byte _ (yields_any byte) (λ t _.
+    yields_then (λ x. is_outside (wire x) ≡ true) _ (entrance wire) _ (yields_tested word (λ x. is_outside (wire x)) 2) (λ x out.
+    yields_then (Further 7 (x ∷ [])) _ (fields 7 (x ∷ [])) _ (yields_fields 7 (x ∷ [])) (λ ps f.
+    yields_read (GoodPacket wire) (record { fields = ps })
+    (record { eight = ap length f.is ∙ ap suc f.many; entrance = ap (λ l. is_outside (wire (get_or l 0 0))) f.is ∙ out }))))))
+
 pub from_outside : Outside
-from_outside f rest e =
-    ap (λ g. and_then g (λ ps r. Read (record { fields = ps }) r))
-    (subst (λ k. fields k [] (flat_map word_bytes f.packet.fields ++ rest) ≡ Read f.packet.fields rest) e (fields_back [] f.packet.fields rest))
+from_outside =
+    record {
+      back = λ wire f rest g. outside_back wire f.version f.hops f.packet.fields rest g.eight g.entrance;
+      only = λ wire p bs rest e. outside_only wire bs p rest e;
+    }
+
+-- What reads is good.
+pub good_letter : (reader : Reader) (n h : ℕ) → Yields (letter reader n h) (GoodLetter reader n h)
+good_letter reader n h = (fine_letter n h reader).yields
+
+pub good_mark : (h : ℕ) → Yields (mark h) (GoodMark h)
+good_mark h = (fine_mark h).yields
+
+pub good_frame : (h port : ℕ) → Yields (cabled h port) (GoodFrame h port)
+good_frame h port = (fine_frame h port).yields

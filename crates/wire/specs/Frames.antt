@@ -4,7 +4,9 @@ use Rattle.std.specs.List.{flat_map}
 use Rattle.octets.specs.Parse.{Got, Read, and_then, byte, word, word_bytes}
 use Rattle.packet.specs.declared.Packet.{Packet}
 use Rattle.wire.specs.declared.frame.Frame.{Frame}
+use Rattle.wire.specs.declared.board.Wire.{Wire}
 use Rattle.wire.specs.Numbers.{tested, kind, below}
+use Rattle.wire.specs.Wires.{is_outside}
 
 -- k fields more, behind those of ps
 abbrev pub fields : ℕ → List ℕ → List ℕ → Got (List ℕ)
@@ -27,13 +29,26 @@ cabled h port bs =
     and_then (entry port p) (λ x o.
     and_then (fields 7 (x ∷ []) o) (λ ps e. Read (framed v t ps) e)))))
 
+-- the field 0 of a packet from outside, at a switch with these wires
+abbrev pub entrance : (ℕ → Wire) → List ℕ → Got ℕ
+entrance wire = tested word (λ x. is_outside (wire x)) 2
+
 -- a frame from outside: version and hops are there, and say nothing
-abbrev pub outside : List ℕ → Got Packet
-outside bs =
+abbrev pub outside : (ℕ → Wire) → List ℕ → Got Packet
+outside wire bs =
     and_then (kind 64 bs) (λ k r.
     and_then (word r) (λ v q.
     and_then (byte q) (λ t p.
-    and_then (fields 8 [] p) (λ ps e. Read (record { fields = ps }) e))))
+    and_then (entrance wire p) (λ x o.
+    and_then (fields 7 (x ∷ []) o) (λ ps e. Read (record { fields = ps }) e)))))
+
+-- any frame, wherever it is going: as what leaves is seen outside
+abbrev pub plain : List ℕ → Got Frame
+plain bs =
+    and_then (kind 64 bs) (λ k r.
+    and_then (word r) (λ v q.
+    and_then (byte q) (λ t p.
+    and_then (fields 8 [] p) (λ ps e. Read (framed v t ps) e))))
 
 abbrev pub frame_bytes : Frame → List ℕ
 frame_bytes f = 64 ∷ (word_bytes f.version ++ f.hops ∷ flat_map word_bytes f.packet.fields)

@@ -1,18 +1,24 @@
 -- Reading and writing undo each other, and a reader takes just what the writer makes.
-use Rattle.std.specs.Prelude.{◌≡◌, ℕ, ◌<◌, ◌≤◌, List, [], ◌++◌, length, take, slice_index_or}
+use Rattle.std.specs.Prelude.{◌≡◌, ℕ, ◌<◌, ◌≤◌, true, List, [], ◌++◌, length, take, slice_index, slice_index_or}
 use Rattle.octets.specs.Parse.{Got, Read, Bad, Bytes}
 use Rattle.wire.specs.declared.order.Order.{Order}
 use Rattle.wire.specs.declared.order.Order.TheVariants.{Install, Stamp, Round, Remove}
+use Rattle.wire.specs.declared.order.Message.{Message}
+use Rattle.wire.specs.declared.order.Message.TheVariants.{Ask, Answer}
+use Rattle.wire.specs.declared.order.Reader.{Reader}
+use Rattle.wire.specs.declared.order.Reader.TheVariants.{Switch, Desk}
 use Rattle.wire.specs.declared.order.Letter.{Letter}
 use Rattle.wire.specs.declared.mark.Mark.{Mark}
+use Rattle.packet.specs.declared.Packet.{Packet}
+use Rattle.wire.specs.declared.board.Wire.{Wire}
 use Rattle.wire.specs.declared.frame.Frame.{Frame}
 use Rattle.wire.specs.Numbers.{alone}
 use Rattle.wire.specs.Orders.{kind_of, version_of, round_of, order_of, order_in, letter, letter_bytes}
 use Rattle.wire.specs.Marks.{mark, mark_bytes}
-use Rattle.wire.specs.Frames.{cabled, outside, frame_bytes}
+use Rattle.wire.specs.Frames.{cabled, outside, frame_bytes, plain}
 use Rattle.wire.specs.declared.list.End.{End}
 use Rattle.wire.specs.declared.list.Cable.{Cable}
-use Rattle.wire.specs.Wires.{bare, Sound}
+use Rattle.wire.specs.Wires.{bare, is_outside, Sound}
 use Rattle.wire.specs.Lists.{layout_bytes, plugged, opened, AllPluggable, AllOpenable}
 use Rattle.wire.specs.Layouts.{Layout, layout}
 
@@ -33,7 +39,15 @@ Rounded h (Stamp v) = Unit {0}
 Rounded h (Round v m) = (1 ≤ m) × (m ≤ h)
 Rounded h (Remove v) = Unit {0}
 
-pub record GoodLetter (n h : ℕ) (l : Letter) : Type 0 where
+-- it is for this reader: an order at a switch, an answer at the desk
+abbrev pub For : Reader → Message → Type 0
+For Switch (Ask o) = Unit {0}
+For Switch (Answer o) = ⊥
+For Desk (Ask o) = ⊥
+For Desk (Answer o) = Unit {0}
+
+pub record GoodLetter (reader : Reader) (n h : ℕ) (l : Letter) : Type 0 where
+  pub for : For reader l.message
   pub there : l.switch < n
   pub rounded : Rounded h (order_in l.message)
 
@@ -52,7 +66,7 @@ pub record Kinds : Type 0 where
   pub of_kind : (k v m : ℕ) → k < 4 → kind_of (order_of k v m) ≡ k
 
 abbrev pub Orders : Type 0
-Orders = (n h : ℕ) → Exact (letter n h) letter_bytes (GoodLetter n h)
+Orders = (reader : Reader) (n h : ℕ) → Exact (letter reader n h) letter_bytes (GoodLetter reader n h)
 
 abbrev pub Marks : Type 0
 Marks = (h : ℕ) → Exact (mark h) mark_bytes (GoodMark h)
@@ -60,9 +74,20 @@ Marks = (h : ℕ) → Exact (mark h) mark_bytes (GoodMark h)
 abbrev pub Frames : Type 0
 Frames = (h port : ℕ) → Exact (cabled h port) frame_bytes (GoodFrame h port)
 
--- what was written as a frame reads from outside as its packet
-abbrev pub Outside : Type 0
-Outside = (f : Frame) (rest : List ℕ) → length f.packet.fields ≡ 8 → outside (frame_bytes f ++ rest) ≡ Read f.packet rest
+-- what was written as a frame reads as it
+abbrev pub Plain : Type 0
+Plain = (f : Frame) (rest : List ℕ) → length f.packet.fields ≡ 8 → plain (frame_bytes f ++ rest) ≡ Read f rest
+
+-- a packet at an outside port of a switch with these wires
+pub record GoodPacket (wire : ℕ → Wire) (p : Packet) : Type 0 where
+  pub eight : length p.fields ≡ 8
+  pub entrance : is_outside (wire (slice_index p.fields 0)) ≡ true
+
+-- back: what was written as a frame of such a packet reads from outside as the packet
+-- only: and what reads is such a packet
+pub record Outside : Type 0 where
+  pub back : (wire : ℕ → Wire) (f : Frame) (rest : List ℕ) → GoodPacket wire f.packet → outside wire (frame_bytes f ++ rest) ≡ Read f.packet rest
+  pub only : (wire : ℕ → Wire) (p : Packet) (bs rest : List ℕ) → outside wire bs ≡ Read p rest → GoodPacket wire p
 
 -- what reads as a list of cables is within the limits, and its cables are those of a net
 pub record GoodLayout (x : Layout) : Type 0 where

@@ -1,8 +1,8 @@
 pub mod Numbers
 pub mod Orders
 pub mod Marks
-pub mod Frames
 pub mod Wires
+pub mod Frames
 pub mod Layouts
 pub mod Cables
 pub mod Lists

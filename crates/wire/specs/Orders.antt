@@ -5,6 +5,8 @@ use Rattle.wire.specs.declared.order.Order.{Order}
 use Rattle.wire.specs.declared.order.Order.TheVariants.{Install, Stamp, Round, Remove}
 use Rattle.wire.specs.declared.order.Message.{Message}
 use Rattle.wire.specs.declared.order.Message.TheVariants.{Ask, Answer}
+use Rattle.wire.specs.declared.order.Reader.{Reader}
+use Rattle.wire.specs.declared.order.Reader.TheVariants.{Switch, Desk}
 use Rattle.wire.specs.declared.order.Letter.{Letter}
 use Rattle.wire.specs.Numbers.{between, below}
 
@@ -43,14 +45,13 @@ order n h k bs =
 abbrev pub sent : (Order → Message) → Order × ℕ → Letter
 sent make o = record { message = make o.0; switch = o.1 }
 
-abbrev pub of_kind : ℕ → ℕ → ℕ → List ℕ → Got Letter
-of_kind n h k bs =
-    cond (nat_le 16 k && nat_le k 19) (and_then (order n h (k - 16) bs) (λ o r. Read (sent Ask o) r))
-    (cond (nat_le 48 k && nat_le k 51) (and_then (order n h (k - 48) bs) (λ o r. Read (sent Answer o) r))
-    (Bad 1))
+-- a switch takes orders alone, and the desk answers alone
+abbrev pub of_kind : Reader → ℕ → ℕ → ℕ → List ℕ → Got Letter
+of_kind Switch n h k bs = cond (nat_le 16 k && nat_le k 19) (and_then (order n h (k - 16) bs) (λ o r. Read (sent Ask o) r)) (Bad 1)
+of_kind Desk n h k bs = cond (nat_le 48 k && nat_le k 51) (and_then (order n h (k - 48) bs) (λ o r. Read (sent Answer o) r)) (Bad 1)
 
-abbrev pub letter : ℕ → ℕ → List ℕ → Got Letter
-letter n h bs = and_then (byte bs) (of_kind n h)
+abbrev pub letter : Reader → ℕ → ℕ → List ℕ → Got Letter
+letter reader n h bs = and_then (byte bs) (of_kind reader n h)
 
 -- Writing.
 abbrev pub order_in : Message → Order

@@ -4,8 +4,8 @@ use packet::Packet;
 mod reads;
 mod writes;
 
-pub use reads::{read_cable, read_outside};
-pub use writes::write;
+pub use reads::{read, read_cable, read_outside};
+pub use writes::bytes;
 
 #[derive(Clone, Copy)]
 pub struct Frame {

@@ -6,6 +6,7 @@ pub fn formats_stand() -> u8
     ensures orders { laws.Orders }
     ensures marks { laws.Marks }
     ensures frames { laws.Frames }
+    ensures plain { laws.Plain }
     ensures outside { laws.Outside }
     ensures cabled { laws.Cabled }
     ensures listed { laws.Listed }

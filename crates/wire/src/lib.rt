@@ -14,4 +14,4 @@ pub use board::{Board, Wire};
 pub use cables::Cables;
 pub use frame::Frame;
 pub use mark::Mark;
-pub use order::{Letter, Message, Order};
+pub use order::{Letter, Message, Order, Reader};

@@ -1,14 +1,14 @@
 // Marks, which go over cables in front of what is sent by a new version.
-ghost use Rattle.std.specs.Prelude.{◌≡◌, [], ◌++◌, MatchResult};
+ghost use Rattle.std.specs.Prelude.{◌≡◌, []};
 ghost use Rattle.octets.specs.Readers.{told, rest};
 ghost use Rattle.wire.specs.Numbers.{alone};
 ghost use Rattle.wire.specs.Marks as spec;
 
 use crate::numbers::{between, kind};
 use octets::{Cursor, Fault};
-use std::alloc::AllocError;
 
-#[derive(Clone, Copy, PartialEq, Eq)]
+// Of a round of a version's change. Rounds count from 1: version 0 and round 0 stand for no mark.
+#[derive(Clone, Copy, Debug, PartialEq, Eq)]
 pub struct Mark {
     pub version: u16,
     pub round: u8,
@@ -35,16 +35,13 @@ pub fn read(bytes: &[u8], h: u8) -> Result<Mark, Fault>
     Ok(m)
 }
 
-// Puts the bytes behind what is there, or changes nothing where no memory is left.
-pub fn write(out: &mut Vec<u8>, m: Mark) -> Result<(), AllocError>
-    ensures cases { MatchResult result
-        (λ _. out.new.items ≡ out.old.items ++ spec.mark_bytes m)
-        (λ _. out.new.items ≡ out.old.items) }
+pub fn bytes(m: Mark) -> [u8; 4]
+    ensures value { result ≡ spec.mark_bytes m }
 {
-    out.extend_from_slice(&[
+    [
         65,
         (m.version / 256) as u8,
         (m.version % 256) as u8,
         m.round,
-    ])
+    ]
 }

@@ -1,15 +1,17 @@
 // Orders, which the desk gives to switches, and the answers to them.
-ghost use Rattle.std.specs.Prelude.{◌≡◌};
+ghost use Rattle.std.specs.Prelude.{◌≡◌, Decides};
 ghost use Rattle.wire.specs.Orders as spec;
+ghost use Rattle.std.specs.Cmp.Rules.{comparing};
+ghost use Rattle.std.proofs.Common.{rules};
 
 mod reads;
 mod writes;
 
 pub use reads::{read, read_alone};
-pub use writes::write;
+pub use writes::{bytes, write};
 
 // What is ordered, of a version. Behind an install stands its table, which is no part of this.
-#[derive(Clone, Copy, PartialEq, Eq)]
+#[derive(Clone, Copy, Debug)]
 pub enum Order {
     Install(u16),
     Stamp(u16),
@@ -17,17 +19,40 @@ pub enum Order {
     Remove(u16),
 }
 
-#[derive(Clone, Copy, PartialEq, Eq)]
+#[derive(Clone, Copy)]
 pub enum Message {
     Ask(Order),
     Answer(Order),
 }
 
+// Who reads a message: a switch takes orders alone, and the desk answers alone.
+#[derive(Clone, Copy)]
+pub enum Reader {
+    Switch,
+    Desk,
+}
+
 // A message with the switch that is asked or that answers.
-#[derive(Clone, Copy, PartialEq, Eq)]
+#[derive(Clone, Copy)]
 pub struct Letter {
     pub message: Message,
     pub switch: u8,
+}
+
+impl PartialEq for Order {
+    ghost equals = { λ a b r. Decides r (a ≡ b) };
+
+    ghost laws = { Prim.search (comparing, rules) };
+
+    fn eq(&self, other: &Order) -> bool {
+        match (*self, *other) {
+            (Order::Install(v), Order::Install(w)) => v == w,
+            (Order::Stamp(v), Order::Stamp(w)) => v == w,
+            (Order::Round(v, r), Order::Round(w, q)) => v == w && r == q,
+            (Order::Remove(v), Order::Remove(w)) => v == w,
+            _ => false,
+        }
+    }
 }
 
 impl Order {

@@ -1,18 +1,13 @@
 // How outs are made and read.
 ghost use Rattle.std.specs.Prelude.{◌≡◌, ◌+◌, ◌<◌, ◌≤◌, [], ◌∷◌, ◌++◌, map, length, slice_index_or};
-ghost use Rattle.text.specs.Texts.{nodes_of};
-ghost use Rattle.text.specs.Trees.{meaning};
-ghost use Rattle.meaning.specs.Evaluators.{text_of};
 ghost use Rattle.meaning.specs.Listed.{fields_of};
 ghost use Rattle.prescribed.specs.Order.{insert, rising, less_out};
 ghost use Rattle.prescribed.specs.Table as prescribed;
 ghost use Rattle.leaves.specs.Place.{Place};
-ghost use Rattle.leaves.specs.Outs.{setting_of, settings_of, outs_of, LeafOuts};
+ghost use Rattle.leaves.specs.Outs.{setting_of, settings_of, outs_of};
 
 use super::{Out, Outs, Setting};
 use crate::rank::comes_before;
-use meaning::Evaluator;
-use octets::Fault;
 use packet::Packet;
 
 const NOTHING: Setting = Setting { field: 0, value: 0 };
@@ -153,7 +148,8 @@ impl Outs {
         }
     }
 
-    fn from_copies(p: Packet, copies: &[Packet]) -> Outs
+    // The settings of each copy of p, each once, in rising order.
+    pub(crate) fn from_copies(p: Packet, copies: &[Packet]) -> Outs
         requires few { length copies.now ≤ 16 }
         ensures value { outs_of result ≡ rising less_out (map (prescribed.changes 0 p.fields) (fields_of copies.now)) }
     {
@@ -162,17 +158,5 @@ impl Outs {
             all = all.insert(Out::changes(p, *q));
         }
         all
-    }
-
-    // What the evaluator's text does with the packet: the settings of each copy, each once, in rising order.
-    pub fn of(evaluator: &mut Evaluator, p: Packet) -> Result<Outs, Fault>
-        ensures text { text_of evaluator.new ≡ text_of evaluator.old }
-        ensures cases { LeafOuts (meaning (nodes_of (text_of evaluator.old))) p.fields result }
-    {
-        let last = evaluator.text().nodes().len() - 1;
-        match evaluator.copies(last as u16, p) {
-            Ok(copies) => Ok(Outs::from_copies(p, copies.as_slice())),
-            Err(fault) => Err(fault),
-        }
     }
 }

@@ -3,7 +3,7 @@ ghost use Rattle.std.specs.Prelude.{◌≡◌, ◌<◌, ◌≤◌, length, take}
 ghost use Rattle.switch.specs.Holding.{Found, others, used};
 
 #[derive(Clone, Copy)]
-pub struct Held {
+pub(crate) struct Held {
     pub version: u16,
     pub place: usize,
 }

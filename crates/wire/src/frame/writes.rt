@@ -1,13 +1,10 @@
 // Writing a frame.
-ghost use Rattle.std.specs.Prelude.{◌≡◌, ◌++◌, MatchResult};
-ghost use Rattle.std.specs.List.{flat_map};
-ghost use Rattle.octets.specs.Parse.{word_bytes};
+ghost use Rattle.std.specs.Prelude.{◌≡◌};
 ghost use Rattle.wire.specs.Frames as spec;
 
 use super::Frame;
-use std::alloc::AllocError;
 
-fn frame_bytes(frame: Frame) -> [u8; 20]
+pub fn bytes(frame: Frame) -> [u8; 20]
     ensures value { result ≡ spec.frame_bytes frame }
 {
     let v = frame.version;
@@ -34,13 +31,4 @@ fn frame_bytes(frame: Frame) -> [u8; 20]
         (h / 256) as u8,
         (h % 256) as u8,
     ]
-}
-
-// Puts the bytes behind what is there, or changes nothing where no memory is left.
-pub fn write(out: &mut Vec<u8>, frame: Frame) -> Result<(), AllocError>
-    ensures cases { MatchResult result
-        (λ _. out.new.items ≡ out.old.items ++ spec.frame_bytes frame)
-        (λ _. out.new.items ≡ out.old.items) }
-{
-    out.extend_from_slice(&frame_bytes(frame))
 }

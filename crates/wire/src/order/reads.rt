@@ -4,7 +4,7 @@ ghost use Rattle.octets.specs.Readers.{told, rest};
 ghost use Rattle.wire.specs.Numbers.{alone};
 ghost use Rattle.wire.specs.Orders as spec;
 
-use super::{Letter, Message, Order};
+use super::{Letter, Message, Order, Reader};
 use crate::numbers::{below, between};
 use octets::{Cursor, Fault};
 
@@ -29,20 +29,20 @@ fn order(c: &mut Cursor, n: u8, h: u8, kind: u8) -> Result<(Order, u8), Fault>
     Ok((Order::of_kind(kind, version, round), switch))
 }
 
-// An order or an answer, in a net of n switches and h hops. What is left to read is an install's table.
-pub fn read(c: &mut Cursor, n: u8, h: u8) -> Result<Letter, Fault>
-    ensures value { told result (rest c.new) ≡ spec.letter n h (rest c.old) }
+// An order at a switch or an answer at the desk, in a net of n switches and h hops. What is left to read is an install's table.
+pub fn read(c: &mut Cursor, reader: Reader, n: u8, h: u8) -> Result<Letter, Fault>
+    ensures value { told result (rest c.new) ≡ spec.letter reader n h (rest c.old) }
 {
     let kind = c.byte()?;
-    match kind {
-        16..=19 => {
+    match (kind, reader) {
+        (16..=19, Reader::Switch) => {
             let (o, switch) = order(c, n, h, kind - 16)?;
             Ok(Letter {
                 message: Message::Ask(o),
                 switch,
             })
         }
-        48..=51 => {
+        (48..=51, Reader::Desk) => {
             let (o, switch) = order(c, n, h, kind - 48)?;
             Ok(Letter {
                 message: Message::Answer(o),
@@ -54,11 +54,11 @@ pub fn read(c: &mut Cursor, n: u8, h: u8) -> Result<Letter, Fault>
 }
 
 // The same with nothing behind it.
-pub fn read_alone(bytes: &[u8], n: u8, h: u8) -> Result<Letter, Fault>
-    ensures value { told result [] ≡ alone (spec.letter n h) bytes.now }
+pub fn read_alone(bytes: &[u8], reader: Reader, n: u8, h: u8) -> Result<Letter, Fault>
+    ensures value { told result [] ≡ alone (spec.letter reader n h) bytes.now }
 {
     let mut c = Cursor::new(bytes);
-    let letter = read(&mut c, n, h)?;
+    let letter = read(&mut c, reader, n, h)?;
     if !c.is_done() {
         return Err(Fault::Form);
     }

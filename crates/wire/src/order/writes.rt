@@ -14,19 +14,25 @@ fn kind(m: Message) -> u8
     }
 }
 
+pub fn bytes(letter: Letter) -> [u8; 5]
+    ensures value { result ≡ spec.letter_bytes letter }
+{
+    let (Message::Ask(o) | Message::Answer(o)) = letter.message;
+    let v = o.version();
+    [
+        kind(letter.message),
+        (v / 256) as u8,
+        (v % 256) as u8,
+        o.round(),
+        letter.switch,
+    ]
+}
+
 // Puts the bytes behind what is there, or changes nothing where no memory is left.
 pub fn write(out: &mut Vec<u8>, letter: Letter) -> Result<(), AllocError>
     ensures cases { MatchResult result
         (λ _. out.new.items ≡ out.old.items ++ spec.letter_bytes letter)
         (λ _. out.new.items ≡ out.old.items) }
 {
-    let (Message::Ask(o) | Message::Answer(o)) = letter.message;
-    let v = o.version();
-    out.extend_from_slice(&[
-        kind(letter.message),
-        (v / 256) as u8,
-        (v % 256) as u8,
-        o.round(),
-        letter.switch,
-    ])
+    out.extend_from_slice(&bytes(letter))
 }

@@ -4,8 +4,8 @@ use Rattle.text.proofs.Sound.{fitting_there}
 use Rattle.meaning.proofs.Remembering.{right_now}
 use Rattle.meaning.proofs.evaluator.Evaluator.holds.Goals as goal
 
-pub passes-requires : goal.passes-requires
-passes-requires c = record { within = fitting_there Test _ c.args.k (sym c.if-not-is_test.ensures.value); memo = right_now _ _ c.args.self.now.right }
+pub told-requires : goal.told-requires
+told-requires c = record { within = fitting_there Test _ c.args.k (sym c.if-not-is_test.ensures.value); memo = right_now _ _ c.args.self.now.right }
 
 pub invariant_of-self : goal.invariant_of-self
-invariant_of-self c = record { right = ∣ c.passes.ensures.memo ∣₁ }
+invariant_of-self c = (∣ c.told.ensures.memo ∣₁, tt)

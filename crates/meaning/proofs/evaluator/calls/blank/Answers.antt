@@ -1,7 +1,7 @@
-use Rattle.std.proofs.Common.{◌*◌, length, refl, ap, arith, rules}
+use Rattle.std.proofs.Common.{◌≡◌, List, [], sym, refl, subst, arith, rules}
 use Rattle.text.specs.Texts.{nodes_of}
-use Rattle.meaning.specs.Kept.{RowRight, EntryRight}
-use Rattle.meaning.proofs.Remembering.{all_alike, nobody-gives}
+use Rattle.meaning.specs.Kept.{RowRight, AllRight}
+use Rattle.meaning.proofs.Remembering.{all_alike}
 use Rattle.meaning.proofs.evaluator.calls.blank.Goals as goal
 
 pub returns : goal.returns
@@ -10,10 +10,9 @@ returns c =
     record {
       made =
           record {
-            rows = all_alike (RowRight ns) 32 32 _ _ refl (c.in_ok-rows.ensures.items_if_clones_equal (λ _ e. e)) c.row_of-row.ensures.right;
-            entries =
-                all_alike (EntryRight ns) _ _ _ _ (ap (λ l. 64 * length l) c.nodes.ensures.value) (c.in_ok-entries.ensures.items_if_clones_equal (λ _ e. e))
-                (nobody-gives ns 65535 _ c.none.result (search rules) c.none.ensures.value);
-            sized = (search rules, omega arith, search rules);
+            rows = all_alike (RowRight ns) 32 32 _ _ refl (c.in_ok-rows.ensures.items-if-clones-equal (λ _ e. e)) c.row_of-row.ensures.right;
+            entries = subst (AllRight ns) (sym c.in_ok-entries.ensures.items) (λ k d z lt. absurd (omega arith));
+            marks = c.raising.ensures.marks;
+            sized = (search rules, omega arith);
           };
     }

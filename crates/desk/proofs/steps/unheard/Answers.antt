@@ -1,7 +1,0 @@
--- A row of no answers stands for a desk that nobody has answered.
-use Rattle.desk.specs.Model.{stage_of}
-use Rattle.desk.proofs.Seen.{none_seen}
-use Rattle.desk.proofs.steps.unheard.Goals as goal
-
-pub returns : goal.returns
-returns c = record { after = none_seen c.args.from c.args.to (stage_of c.args.stage) }

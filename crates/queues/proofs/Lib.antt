@@ -1,0 +1,3 @@
+mod Rows
+mod Placed
+pub mod Laws

@@ -1,0 +1,12 @@
+-- What was read is a table, and its words are there.
+use Rattle.std.proofs.Common.{◌≤◌, vec_items, vec_capacity, arith}
+use Rattle.tablebytes.proofs.Storing.{stands, stored}
+use Rattle.tablebytes.proofs.place.Place.store.Goals as goal
+
+pub invariant_of-self : goal.invariant_of-self
+invariant_of-self c =
+    let room : 593920 ≤ vec_capacity c.args.self.now.words = c.args.self.now.room in
+    ((stands c.args.bytes.now (vec_items c.refill.new.words) c.refill.ensures.items).sound, (omega (arith, c.refill.ensures.capacity), tt))
+
+pub returns : goal.returns
+returns c = record { cases = stored c.args.bytes.now _ _ (stands c.args.bytes.now (vec_items c.refill.new.words) c.refill.ensures.items).read }
