@@ -1,0 +1,81 @@
+-- One line of a header more.
+use Rattle.std.proofs.Common.{◌≡◌, ℕ, ◌+◌, ◌<◌, ◌⊎◌, List, [], ◌∷◌, ◌++◌, map, length, Some, None, Err, ap, ◌∙◌, inl, inr}
+use Rattle.std.proofs.lemmas.List.{map_push}
+use Rattle.octets.specs.declared.fault.Fault.{Fault}
+use Rattle.octets.specs.declared.fault.Fault.TheVariants.{Memory}
+use Rattle.octets.specs.Faults.{number}
+use Rattle.notation.specs.declared.reader.Refusal.{Refusal}
+use Rattle.notation.specs.declared.marks.Mark.TheVariants.{Newline}
+use Rattle.notation.specs.Marks.{before, behind, parts}
+use Rattle.notation.specs.Words.{Word}
+use Rattle.notation.specs.Reading.{Got, Read, Bad, and_then}
+use Rattle.notation.proofs.Turns.{parts_at, no_parts}
+use Rattle.wire.specs.Layouts.{Layout}
+use Rattle.script.specs.declared.line.TextLine.{TextLine}
+use Rattle.script.specs.declared.header.Placed as declared
+use Rattle.script.specs.declared.header.draft.Went.TheVariants.{On, Begun}
+use Rattle.script.specs.declared.header.headings.Heading.TheVariants as heading
+use Rattle.script.specs.Lines.{text_of, text_in}
+use Rattle.script.specs.Scripts.{placed_of, Sofar, with_text, of_heading, line_in, goes_on, describing, opened, started_at, Outcome, Refused, Unfinished, refusal, Headed, first_in, opens, opening}
+
+abbrev at : Layout → List declared.Placed → Sofar
+at x ps = record { layout = x; texts = map placed_of ps }
+
+pub text_more : (k : ℕ) (x : Layout) (old more : List declared.Placed) (t : TextLine) (bs : List ℕ) (ws : List Word) → Read (text_of t) [] ≡ text_in bs ws →
+    more ≡ old ++ record { line = k; text = t } ∷ [] → Read (On, at x more) [] ≡ of_heading k (at x old) (Some heading.Text) bs ws
+text_more k x old more t bs ws e f =
+    ap (λ l. Read (On, at x l) []) f
+    ∙ ap (λ l. Read (On, record { layout = x; texts = l }) []) (map_push placed_of old (record { line = k; text = t }))
+    ∙ ap (λ g. and_then g (λ u r. Read (On, with_text (at x old) k u) r)) e
+
+-- the bytes bs begin with the line l, and rest is what follows it
+module _ (k : ℕ) (s : Sofar) (bs l rest : List ℕ) (some : 0 < length bs) (front : l ≡ before Newline bs) (back : rest ≡ behind Newline bs) where
+  pub line_more : (t : Sofar) → Read (On, t) [] ≡ line_in (k + 1) s l → describing (k + 1) t (parts Newline rest) ≡ describing k s (parts Newline bs)
+  unfolding describing
+  line_more t e =
+      ap (λ g. goes_on (k + 1) (parts Newline rest) g (λ u. describing (k + 1) u (parts Newline rest))) e ∙ ap (describing k s) (parts_at Newline bs l rest some front back)
+
+  pub line_starts : (t : Sofar) → Read (Begun, t) [] ≡ line_in (k + 1) s l → started_at t (k + 1) rest ≡ describing k s (parts Newline bs)
+  unfolding describing
+  line_starts t e =
+      ap (λ g. goes_on (k + 1) (parts Newline rest) g (λ u. describing (k + 1) u (parts Newline rest))) e ∙ ap (describing k s) (parts_at Newline bs l rest some front back)
+
+  pub line_stops : (n : ℕ) → Bad n ≡ line_in (k + 1) s l → Refused n (Some (k + 1)) ≡ describing k s (parts Newline bs)
+  unfolding describing
+  line_stops n e =
+      ap (λ g. goes_on (k + 1) (parts Newline rest) g (λ u. describing (k + 1) u (parts Newline rest))) e ∙ ap (describing k s) (parts_at Newline bs l rest some front back)
+
+pub lines_end : (k : ℕ) (s : Sofar) (bs : List ℕ) → length bs ≡ 0 → Unfinished ≡ describing k s (parts Newline bs)
+unfolding describing
+lines_end k s bs h = ap (describing k s) (no_parts Newline bs h)
+
+-- no text yet
+pub none_yet : (k : ℕ) (x : Layout) (ps : List declared.Placed) (ls : List (List ℕ)) → ps ≡ [] → describing k (at x ps) ls ≡ describing k (opened x) ls
+none_yet k x ps ls e = ap (λ l. describing k (at x l) ls) e
+
+-- a fault in line k, or want of memory
+pub stopped : (e : Refusal) (f : Fault) (k : ℕ) {X : Type 0} (g : Got X) (o : Outcome) → e ≡ refusal f k → (f ≡ Memory) ⊎ (Bad (number f) ≡ g) →
+    (Bad (number f) ≡ g → Refused (number f) (Some k) ≡ o) → Headed (Err e) o
+stopped e f k g o is (inl m) h = inl (ap (λ r. r.fault) is ∙ m)
+stopped e f k g o is (inr b) h = inr (ap (λ r. Refused (number r.fault) r.line) is ∙ h b)
+
+-- before `net`
+module _ (k : ℕ) (bs l rest : List ℕ) (some : 0 < length bs) (front : l ≡ before Newline bs) (back : rest ≡ behind Newline bs) where
+  pub first_more : Read None [] ≡ first_in l → opening (k + 1) (parts Newline rest) ≡ opening k (parts Newline bs)
+  unfolding opening
+  first_more e =
+      ap (λ g. opens (k + 1) (parts Newline rest) g (opening (k + 1) (parts Newline rest))) e ∙ ap (opening k) (parts_at Newline bs l rest some front back)
+
+  pub first_net : (x : Layout) → Read (Some x) [] ≡ first_in l → describing (k + 1) (opened x) (parts Newline rest) ≡ opening k (parts Newline bs)
+  unfolding opening
+  first_net x e =
+      ap (λ g. opens (k + 1) (parts Newline rest) g (opening (k + 1) (parts Newline rest))) e ∙ ap (opening k) (parts_at Newline bs l rest some front back)
+
+  pub first_stops : (n : ℕ) → Bad n ≡ first_in l → Refused n (Some (k + 1)) ≡ opening k (parts Newline bs)
+  unfolding opening
+  first_stops n e =
+      ap (λ g. opens (k + 1) (parts Newline rest) g (opening (k + 1) (parts Newline rest))) e ∙ ap (opening k) (parts_at Newline bs l rest some front back)
+
+pub first_end : (k : ℕ) (bs : List ℕ) → length bs ≡ 0 → Unfinished ≡ opening k (parts Newline bs)
+unfolding opening
+first_end k bs h = ap (opening k) (no_parts Newline bs h)

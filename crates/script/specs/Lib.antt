@@ -1,0 +1,10 @@
+pub mod Events
+pub mod Verbs
+pub mod Steps
+pub mod Lines
+pub mod Readers
+pub mod Headers
+pub mod Described
+pub mod Headings
+pub mod Scripts
+pub mod Examples
