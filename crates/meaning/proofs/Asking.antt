@@ -3,14 +3,14 @@ use Rattle.std.proofs.Common.{◌≡◌, ℕ, ◌+◌, ◌-◌, ◌<◌, ◌≤�
 use Rattle.std.specs.List.{AllByRecursion}
 use Rattle.std.proofs.lemmas.List.{at_drop_more, at_drop_all, get_or_past, get_or-set_same, get_or-set_other}
 use Rattle.std.proofs.ByRecursion.{All-get_or, All-push}
-use Rattle.std.proofs.lemmas.Bool.{cases_lt, cases_Bool, false≢true, and_from, eq-eqb, or_left, or_right, or_cases}
-use Rattle.packet.specs.Policy.{Test, always, is, both, either, isnt, Policy, keep, puts, and, then}
+use Rattle.std.proofs.lemmas.Bool.{cases_lt, false≢true, or_left, or_right, or_cases}
+use Rattle.packet.specs.Policy.{always, isnt}
 use Rattle.packet.specs.Table.{Want}
 use Rattle.text.specs.declared.node.Node.{Node}
 use Rattle.text.specs.declared.node.Node.TheVariants.{Always, Is, Both, Either, Not, Keep, Put, And, Then}
 use Rattle.text.specs.Trees.{Tree, a_test, a_policy, as_test, as_policy, test_at, policy_at, tree_of, build, trees, meaning}
 use Rattle.prescribed.specs.Table.{tested, tested_in, names}
-use Rattle.meaning.specs.Kept.{Stands, MarksRight}
+use Rattle.meaning.specs.Kept.{Stands}
 use Rattle.meaning.specs.Resting.{asked_by, asked, raises}
 
 names_append : (f x : ℕ) (vs ws : List Want) → names f x (vs ++ ws) ≡ (names f x vs || names f x ws)

@@ -3,13 +3,13 @@
 --   Says ns k p q row   the row has the bytes of the first k nodes, as tests, for the packet q, which came of p
 --   Lives ns k p q row  a node of the first k whose byte says no has no copies of q
 --   Right ns m          all rows and entries are right, and there are as many as there should be
-use Rattle.std.specs.Prelude.{◌≡◌, ℕ, ◌*◌, ◌<◌, ◌≤◌, Bool, false, List, length, get_or, Ok, vec_items, vec_len, slice_index, slice_index_or}
+use Rattle.std.specs.Prelude.{◌≡◌, ℕ, ◌<◌, ◌≤◌, Bool, false, List, length, get_or, Ok, vec_items, vec_len, slice_index, slice_index_or}
 use Rattle.std.specs.List.{AllWithin}
 use Rattle.packet.specs.Packet.{Packet}
 use Rattle.packet.specs.Policy.{always, isnt}
 use Rattle.text.specs.declared.node.Node.{Node}
 use Rattle.text.specs.declared.node.Node.TheVariants.{Always, Is, Both, Either, Not, Keep, Put, And, Then}
-use Rattle.text.specs.Trees.{Tree, a_test, trees, tree_of, test_at, policy_at}
+use Rattle.text.specs.Trees.{a_test, trees, tree_of, test_at, policy_at}
 use Rattle.meaning.specs.declared.memo.Row.{Row}
 use Rattle.meaning.specs.declared.memo.Entry.{Entry}
 use Rattle.meaning.specs.declared.memo.Memo.{Memo}

@@ -3,7 +3,7 @@
 --   raises ws a            the policy a itself puts a value of one of the pairs ws
 --   Gave ws a p q r        what is answered about the copies of q, which came of p, and on how many fields of p it rests
 --   GaveEach ws a p qs r   the same of each of the packets qs, one after the other
-use Rattle.std.specs.Prelude.{◌≡◌, ℕ, Bool, true, false, List, [], ◌∷◌, ◌++◌, Ok, Err, Result}
+use Rattle.std.specs.Prelude.{Bool, false, List, [], ◌∷◌, ◌++◌, Ok, Err, Result}
 use Rattle.std.specs.List.{AllByRecursion}
 use Rattle.octets.specs.declared.fault.Fault.{Fault}
 use Rattle.packet.specs.Packet.{Packet}

@@ -163,7 +163,7 @@ fn give_then(text: &Text, a: u16, b: u16, q: Flight, memo: &mut Memo) -> Result<
     requires second { b < length (nodes_of text.now) }
     requires memo { Right (nodes_of text.now) memo.old }
     ensures memo { Right (nodes_of text.now) memo.new }
-    ensures gave { Gave (asked (nodes_of text.now)) (then (policy_at (trees (nodes_of text.now)) a) (policy_at (trees (nodes_of text.now)) b)) q.first.fields q.packet.fields result }
+    ensures gave { Gave (asked (nodes_of text.now)) ((then) (policy_at (trees (nodes_of text.now)) a) (policy_at (trees (nodes_of text.now)) b)) q.first.fields q.packet.fields result }
 {
     let some = match give(text, a, q, memo) {
         Ok(given) => given,

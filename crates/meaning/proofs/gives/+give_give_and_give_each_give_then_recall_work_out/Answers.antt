@@ -1,4 +1,4 @@
-use Rattle.std.proofs.Common.{◌≡◌, ◌+◌, ◌-◌, ◌*◌, ◌<◌, max, length, get_or, Ok, Err, vec_items, sym, refl, ap, ◌∙◌, subst, ⊎_elim, arith, rules}
+use Rattle.std.proofs.Common.{max, Ok, Err, sym, refl, ap, ◌∙◌, ⊎_elim}
 use Rattle.packet.specs.Packet.{once}
 use Rattle.packet.specs.Policy.{each, some}
 use Rattle.text.specs.Texts.{nodes_of}
@@ -7,7 +7,7 @@ use Rattle.meaning.specs.Resting.{asked, raises}
 use Rattle.meaning.proofs.Answering.{put_gives, and_first, and_second, and_joined, and_full, then_first, then_each, each_few, each_fault, each_more, each_full, each_all}
 use Rattle.meaning.proofs.Levels.{gave_of, same_level, dead_gives, put_rests, and_rests, then_rests, each_rest_more, each_rest_all}
 use Rattle.meaning.proofs.Remembering.{entry_recalled, row_right, row_lives, row_lowered}
-use Rattle.meaning.proofs.Telling.{a_test, test_keeps}
+use Rattle.meaning.proofs.Telling.{a_test_lem, test_keeps}
 use Rattle.meaning.proofs.gives.+give_give_and_give_each_give_then_recall_work_out.Goals as goal
 
 pub recall-returns-in-Some : goal.recall-returns-in-Some
@@ -162,7 +162,7 @@ work_out-returns-in-Then t c = record { memo = c.give_then.ensures.memo; gave = 
 
 pub work_out-returns-in-Always : goal.work_out-returns-in-Always
 work_out-returns-in-Always t c =
-    let is = ⊎_elim (ap a_test) (⊎_elim (λ h. ap a_test h.2) (⊎_elim (λ h. ap a_test h.2) (⊎_elim (λ h. ap a_test h.2) (λ h. ap a_test h.1)))) c.in-Always.is in
+    let is = ⊎_elim (ap a_test_lem) (⊎_elim (λ h. ap a_test_lem h.2) (⊎_elim (λ h. ap a_test_lem h.2) (⊎_elim (λ h. ap a_test_lem h.2) (λ h. ap a_test_lem h.1)))) c.in-Always.is in
     record {
       memo = c.give_keep-in-Always.ensures.memo;
       gave = gave_of _ _ _ _ _ c.give_keep-in-Always.result (test_keeps _ _ c.node_at.result c.node_at.ensures.stands is) c.give_keep-in-Always.ensures.gave;

@@ -1,4 +1,4 @@
-use Rattle.std.proofs.Common.{◌≡◌, sym, ◌∙◌}
+use Rattle.std.proofs.Common.{◌∙◌}
 use Rattle.meaning.proofs.Answering.{keep_passed, keep_refused}
 use Rattle.meaning.proofs.Levels.{keep_rests}
 use Rattle.meaning.proofs.gives.give_keep.Goals as goal

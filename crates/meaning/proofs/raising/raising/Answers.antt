@@ -1,4 +1,4 @@
-use Rattle.std.proofs.Common.{◌≡◌, ◌<◌, length, ap, arith, length-set}
+use Rattle.std.proofs.Common.{◌<◌, length, ap, arith, length-set}
 use Rattle.text.specs.Texts.{nodes_of}
 use Rattle.meaning.proofs.Asking.{marks_more}
 use Rattle.meaning.proofs.raising.raising.Goals as goal

@@ -1,4 +1,4 @@
-use Rattle.std.proofs.Common.{◌≡◌, ◌<◌, length, refl, ap, arith, length-set}
+use Rattle.std.proofs.Common.{◌<◌, length, refl, ap, arith, length-set}
 use Rattle.text.specs.Texts.{nodes_of}
 use Rattle.meaning.proofs.Telling.{says_more, lives_more}
 use Rattle.meaning.proofs.rows.row_of.Goals as goal

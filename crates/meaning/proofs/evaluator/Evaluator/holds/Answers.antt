@@ -8,4 +8,4 @@ pub told-requires : goal.told-requires
 told-requires c = record { within = fitting_there Test _ c.args.k (sym c.if-not-is_test.ensures.value); memo = right_now _ _ c.args.self.now.right }
 
 pub invariant_of-self : goal.invariant_of-self
-invariant_of-self c = (∣ c.told.ensures.memo ∣₁, tt)
+invariant_of-self c = record { right = ∣ c.told.ensures.memo ∣₁ }

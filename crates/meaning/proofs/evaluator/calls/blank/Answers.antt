@@ -1,4 +1,4 @@
-use Rattle.std.proofs.Common.{◌≡◌, List, [], sym, refl, subst, arith, rules}
+use Rattle.std.proofs.Common.{sym, refl, subst, arith, rules}
 use Rattle.text.specs.Texts.{nodes_of}
 use Rattle.meaning.specs.Kept.{RowRight, AllRight}
 use Rattle.meaning.proofs.Remembering.{all_alike}
@@ -10,7 +10,7 @@ returns c =
     record {
       made =
           record {
-            rows = all_alike (RowRight ns) 32 32 _ _ refl (c.in_ok-rows.ensures.items-if-clones-equal (λ _ e. e)) c.row_of-row.ensures.right;
+            rows = all_alike (RowRight ns) 32 32 _ _ refl (c.in_ok-rows.ensures.items_if_clones_equal (λ _ e. e)) c.row_of-row.ensures.right;
             entries = subst (AllRight ns) (sym c.in_ok-entries.ensures.items) (λ k d z lt. absurd (omega arith));
             marks = c.raising.ensures.marks;
             sized = (search rules, omega arith);
