@@ -1,5 +1,5 @@
 -- One out more among the outs, one copy more among the copies, and what is answered of a packet.
-use Rattle.std.proofs.Common.{◌≡◌, ℕ, ◌+◌, ◌-◌, ◌<◌, ◌≤◌, true, false, List, map, length, get_or, take, Ok, sym, ap, ◌∙◌, subst, arith}
+use Rattle.std.proofs.Common.{◌≡◌, ℕ, ◌+◌, ◌<◌, ◌≤◌, true, false, List, map, length, get_or, take, Ok, sym, ap, ◌∙◌, arith}
 use Rattle.std.specs.List.{insert as inserted}
 use Rattle.std.proofs.lemmas.List.{length-map, length-take, length-take-le, get_or-take, map_more, map_push}
 use Rattle.packet.specs.Packet as packets
