@@ -1,25 +1,24 @@
 -- Where one rule stands for all leaves below, and a leaf that has too many copies.
-use Rattle.std.proofs.Common.{◌≡◌, ℕ, zero, suc, ◌+◌, ◌*◌, ◌<◌, ◌≤◌, Bool, true, false, cond, ◌||◌, List, [], ◌∷◌, ◌++◌, map, length, get_or, take, drop, Ok, Err, Result, sym, refl, ap, ◌∙◌, subst, ⊎_elim, arith}
+use Rattle.std.proofs.Common.{◌≡◌, ℕ, zero, suc, ◌+◌, ◌<◌, ◌≤◌, true, ◌||◌, List, [], ◌∷◌, ◌++◌, length, get_or, drop, Ok, Result, sym, refl, ap, ◌∙◌, subst, ⊎_elim, arith}
 use Rattle.std.specs.List.{AllByRecursion}
 use Rattle.std.proofs.ByRecursion.{All-from_get_or}
 use Rattle.std.proofs.lemmas.List.{get_or-map, get_or-drop, length-map, length-drop}
 use Rattle.std.proofs.lemmas.Bool.{cases_Bool, cond-true, cond-false, or_right}
 use Rattle.octets.specs.declared.fault.Fault.{Fault}
 use Rattle.packet.specs.Packet.{Packet, put}
-use Rattle.packet.specs.Policy.{Policy, copies, overfull}
-use Rattle.packet.specs.Table.{Want, Setting}
+use Rattle.packet.specs.Policy.{Policy, overfull}
+use Rattle.packet.specs.Table.{Want}
 use Rattle.text.specs.declared.texts.Text.{Text}
 use Rattle.text.specs.Texts.{nodes_of}
 use Rattle.text.specs.Trees.{meaning}
 use Rattle.meaning.specs.Resting.{asked}
-use Rattle.prescribed.specs.Order.{rising, less_out}
-use Rattle.prescribed.specs.Table.{names, sample, changes, is_known, table_from}
-use Rattle.prescribed.specs.Fit.{leaves, crowded, long}
+use Rattle.prescribed.specs.Table.{sample, is_known, table_from}
+use Rattle.prescribed.specs.Fit.{leaves, crowded}
 use Rattle.prescribed.proofs.Sample.{length_sample}
 use Rattle.table.specs.Good.{Each, GoodRule}
 use Rattle.table.specs.Words.{encode}
-use Rattle.levels.specs.Rests.{Clear, Rests}
-use Rattle.levels.specs.Cut.{Beyond, OneRule}
+use Rattle.levels.specs.Rests.{Clear}
+use Rattle.levels.specs.Cut.{Beyond}
 use Rattle.levels.proofs.Cutting.{clear_put, one_rule}
 use Rattle.leaves.specs.declared.leaf.Leaf.{Leaf}
 use Rattle.leaves.specs.declared.pairs.Pair.{Pair}
@@ -29,7 +28,7 @@ use Rattle.maker.specs.declared.known.Known.{Known}
 use Rattle.maker.specs.declared.made.Made.{Made}
 use Rattle.maker.specs.declared.made.Made.TheVariants.{Rules}
 use Rattle.maker.specs.Knowing.{known_of}
-use Rattle.maker.specs.Making.{Written, rule_room, MadeOf}
+use Rattle.maker.specs.Making.{MadeOf}
 use Rattle.maker.specs.Tasks.{pair_at, field_at, Ordered, Task, Settled, Here}
 
 -- what is made for a text is made for one that is the same

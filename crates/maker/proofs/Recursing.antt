@@ -1,10 +1,10 @@
 -- One step of the recursion: what is made of Y and N is made of both.
-use Rattle.std.proofs.Common.{◌≡◌, ℕ, zero, suc, ◌+◌, ◌-◌, ◌*◌, ◌<◌, ◌≤◌, Bool, true, false, cond, ◌||◌, ltb, List, [], ◌∷◌, ◌++◌, map, length, get_or, take, drop, Ok, Err, Result, sym, refl, ap, ◌∙◌, subst, arith}
+use Rattle.std.proofs.Common.{◌≡◌, ℕ, ◌+◌, ◌<◌, true, false, ◌||◌, ltb, List, [], ◌∷◌, ◌++◌, length, get_or, drop, Ok, Err, Result, sym, ap, ◌∙◌, subst, arith}
 use Rattle.std.proofs.lemmas.List.{drop_more}
-use Rattle.std.proofs.lemmas.Bool.{cond-true, cond-false, or_left, or_right, or_from, or_parts, le-ltb, lt-ltb, ltb-false}
+use Rattle.std.proofs.lemmas.Bool.{cond-true, cond-false, or_left, or_right, or_from, le-ltb, lt-ltb}
 use Rattle.octets.specs.declared.fault.Fault.{Fault}
 use Rattle.packet.specs.Policy.{Policy}
-use Rattle.packet.specs.Table.{Want, Table}
+use Rattle.packet.specs.Table.{Want}
 use Rattle.prescribed.specs.Table.{is_known, joined, table_from}
 use Rattle.prescribed.specs.Fit.{leaves, crowded, long}
 use Rattle.table.specs.Good.{Each, GoodRule}
@@ -13,7 +13,7 @@ use Rattle.maker.specs.declared.made.Made.{Made}
 use Rattle.maker.specs.declared.made.Made.TheVariants.{Rules, Over}
 use Rattle.leaves.specs.declared.pairs.Pair.{Pair}
 use Rattle.leaves.specs.Pairs.{want_of, wants_of}
-use Rattle.maker.specs.Making.{Written, JoinedAs, rule_room, MadeOf}
+use Rattle.maker.specs.Making.{JoinedAs, MadeOf}
 
 -- the pairs from i on
 pub wants_more : (ps : List Pair) (i : ℕ) (d : Pair) → i < length ps → wants_of (drop i ps) ≡ want_of (get_or ps i d) ∷ wants_of (drop (i + 1) ps)

@@ -4,10 +4,10 @@ use borrow.Rule.Slice.PartMut.{put_mid}
 use Rattle.std.proofs.lemmas.List.{take_at, drop_at, length-take-le, take-append-le, length-append, length-drop}
 use Rattle.std.proofs.lemmas.Bool.{eq-eqb, both_ways, or_right, or_left}
 use Rattle.octets.specs.declared.fault.Fault.{Fault}
-use Rattle.packet.specs.Packet.{Packet, put}
+use Rattle.packet.specs.Packet.{put}
 use Rattle.packet.specs.Policy.{Policy}
 use Rattle.packet.specs.Table.{Want}
-use Rattle.prescribed.specs.Table.{is_known, knowing, sample, unnamed, table_from}
+use Rattle.prescribed.specs.Table.{is_known, sample, unnamed, table_from}
 use Rattle.prescribed.specs.Fit.{leaves}
 use Rattle.prescribed.proofs.Asks.{is_known_append}
 use Rattle.maker.specs.declared.made.Made.{Made}

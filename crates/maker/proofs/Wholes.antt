@@ -1,8 +1,8 @@
 -- From the recursion to a whole text: where it begins, and what its answer says of the text.
-use Rattle.std.proofs.Common.{◌≡◌, ℕ, zero, suc, ◌+◌, ◌-◌, ◌*◌, ◌<◌, ◌≤◌, Bool, true, false, cond, ◌||◌, eqb, ltb, List, [], ◌∷◌, ◌++◌, length, get_or, take, drop, Ok, Err, sym, refl, ap, ◌∙◌, subst, ⊎_elim, arith}
+use Rattle.std.proofs.Common.{◌≡◌, ℕ, zero, suc, ◌+◌, ◌*◌, ◌<◌, ◌≤◌, true, cond, ◌||◌, eqb, ltb, List, [], ◌∷◌, ◌++◌, length, take, drop, Ok, Err, sym, refl, ap, ◌∙◌, subst, ⊎_elim, arith}
 use mathlib.Core.List.{Memᴰ}
 use Rattle.std.specs.List.{AllWithin, AllByRecursion}
-use Rattle.std.proofs.lemmas.List.{take-take, get_or_past, get_or_default}
+use Rattle.std.proofs.lemmas.List.{take-take, get_or_past}
 use Rattle.std.proofs.lemmas.Bool.{cond-true, cond-false, or_left, or_right, or_from, or_cases, and_parts, ltb-true, eqb-true, le-ltb, lt-ltb, cases_lt}
 use Rattle.octets.specs.declared.fault.Fault.{Fault}
 use Rattle.octets.specs.Faults.{number}
@@ -23,7 +23,7 @@ use Rattle.prescribed.proofs.Free.{named}
 use Rattle.prescribed.proofs.Rising.{Rises, rising_same}
 use Rattle.prescribed.proofs.Orders.{want_ordered, pairs_rise}
 use Rattle.prescribed.proofs.Sizes.{leaves_product}
-use Rattle.table.specs.Good.{Each, GoodWant, GoodRule, Good}
+use Rattle.table.specs.Good.{Each, GoodWant, GoodRule}
 use Rattle.table.specs.Words.{encode}
 use Rattle.leaves.specs.declared.leaf.Leaf.{Leaf}
 use Rattle.leaves.specs.declared.pairs.Pair.{Pair}
@@ -33,7 +33,7 @@ use Rattle.maker.specs.declared.known.Known.{Known}
 use Rattle.maker.specs.declared.made.Made.TheVariants.{Rules, Over}
 use Rattle.maker.specs.Knowing.{known_of}
 use Rattle.maker.specs.Making.{rule_room, MadeOf}
-use Rattle.maker.specs.Tasks.{pair_at, field_at, Ordered, Counted, Task, Here}
+use Rattle.maker.specs.Tasks.{pair_at, field_at, Task, Here}
 use Rattle.maker.specs.End.{Ended}
 use Rattle.maker.specs.Whole as whole
 use Rattle.maker.proofs.Cuts.{crowded_below}

@@ -1,25 +1,18 @@
-use Rattle.std.proofs.Common.{◌≡◌, ℕ, ◌+◌, ◌-◌, ◌*◌, ◌<◌, ◌≤◌, List, [], length, take, drop, Ok, Err, Result, sym, refl, ap, ◌∙◌, subst, arith, rules}
+use Rattle.std.proofs.Common.{◌≡◌, ◌+◌, ◌-◌, ◌*◌, ◌≤◌, List, length, drop, Ok, Err, sym, refl, ap, ◌∙◌, subst, arith, rules}
 use Rattle.std.proofs.lemmas.List.{take_rest, length-drop}
-use Rattle.octets.specs.declared.fault.Fault.{Fault}
 use Rattle.packet.specs.Policy.{Policy, overfull}
 use Rattle.packet.specs.Table.{Want}
-use Rattle.text.specs.declared.texts.Text.{Text}
 use Rattle.text.specs.Texts.{nodes_of}
 use Rattle.text.specs.Trees.{meaning}
 use Rattle.meaning.specs.declared.evaluator.Evaluator.{Evaluator}
 use Rattle.meaning.specs.Evaluators.{text_of}
 use Rattle.meaning.specs.Resting.{asked}
 use Rattle.prescribed.specs.Fit.{leaves}
-use Rattle.leaves.specs.declared.leaf.Leaf.{Leaf}
 use Rattle.leaves.specs.Outs.{settings_of, outs_of}
-use Rattle.maker.specs.declared.made.Made.{Made}
-use Rattle.maker.specs.declared.made.Made.TheVariants.{Rules, Over}
-use Rattle.leaves.specs.declared.pairs.Pair.{Pair}
-use Rattle.maker.specs.declared.known.Known.{Known}
+use Rattle.maker.specs.declared.made.Made.TheVariants.{Rules}
 use Rattle.leaves.specs.Pairs.{want_of, wants_of}
 use Rattle.maker.specs.Knowing.{known_of}
 use Rattle.maker.specs.Making.{rule_room, MadeOf}
-use Rattle.maker.specs.Tasks.{Task, Here}
 use Rattle.maker.proofs.Cuts.{same_made, same_task, same_here, cut_made, here_yes, crowded_below, room_for_rule}
 use Rattle.maker.proofs.LeafRule.{few_mapped, leaf_made}
 use Rattle.maker.proofs.Turns.{task_known, turn_known, room_for_one, room_for_both, task_yes, task_no, fits_behind, turn_crowded_y, turn_crowded_n, turn_over_y, turn_over_n, turn_joined, front_stays, back_is, whole_length}
@@ -129,14 +122,14 @@ returns-in-Err-make-2 t c =
           (same_made _ _ (c.in-Ok-make.ensures.text ∙ c.in-Ok.ensures.text) (wants_of (drop (c.args.i + 1) c.args.pairs.now)) (known_of c.args.known) c.make-in_default.new.out (Err c.in-Err-make-2.fault) c.in-Err-make-2.ensures.made);
     }
 
-pub offset-bounds-out-y : goal.offset-bounds-out-y
-offset-bounds-out-y t c = omega (arith, c.well-formed, fits_behind (plan c.args.evaluator.now) c.args.pairs.now c.args.i c.args.known (length c.args.out.now) c.requires.task c.if-is_settled.ensures.cases.0 (sym c.if-knows.ensures.value) c.with-with.result c.with-with.ensures.known c.make-2.new.out c.in-Rules.y c.in-Rules.more (subst (λ m. MadeOf (plan c.args.evaluator.now) (wants_of (drop (c.args.i + 1) c.args.pairs.now)) (known_of c.with-with.result) c.make-2.new.out (Ok m)) c.in-Rules.is (same_made _ _ c.in-Ok.ensures.text (wants_of (drop (c.args.i + 1) c.args.pairs.now)) (known_of c.with-with.result) c.make-2.new.out (Ok c.in-Ok-make.yes) c.in-Ok-make.ensures.made)))
+pub offset_bounds-out-y : goal.offset_bounds-out-y
+offset_bounds-out-y t c = omega (arith, fits_behind (plan c.args.evaluator.now) c.args.pairs.now c.args.i c.args.known (length c.args.out.now) c.requires.task c.if-is_settled.ensures.cases.0 (sym c.if-knows.ensures.value) c.with-with.result c.with-with.ensures.known c.make-2.new.out c.in-Rules.y c.in-Rules.more (subst (λ m. MadeOf (plan c.args.evaluator.now) (wants_of (drop (c.args.i + 1) c.args.pairs.now)) (known_of c.with-with.result) c.make-2.new.out (Ok m)) c.in-Rules.is (same_made _ _ c.in-Ok.ensures.text (wants_of (drop (c.args.i + 1) c.args.pairs.now)) (known_of c.with-with.result) c.make-2.new.out (Ok c.in-Ok-make.yes) c.in-Ok-make.ensures.made)))
 
-pub slice-bounds-make-count : goal.slice-bounds-make-count
-slice-bounds-make-count t c = omega (arith, fits_behind (plan c.args.evaluator.now) c.args.pairs.now c.args.i c.args.known (length c.args.out.now) c.requires.task c.if-is_settled.ensures.cases.0 (sym c.if-knows.ensures.value) c.with-with.result c.with-with.ensures.known c.make-2.new.out c.in-Rules.y c.in-Rules.more (subst (λ m. MadeOf (plan c.args.evaluator.now) (wants_of (drop (c.args.i + 1) c.args.pairs.now)) (known_of c.with-with.result) c.make-2.new.out (Ok m)) c.in-Rules.is (same_made _ _ c.in-Ok.ensures.text (wants_of (drop (c.args.i + 1) c.args.pairs.now)) (known_of c.with-with.result) c.make-2.new.out (Ok c.in-Ok-make.yes) c.in-Ok-make.ensures.made)))
+pub slice_bounds-make-count : goal.slice_bounds-make-count
+slice_bounds-make-count t c = omega (arith, fits_behind (plan c.args.evaluator.now) c.args.pairs.now c.args.i c.args.known (length c.args.out.now) c.requires.task c.if-is_settled.ensures.cases.0 (sym c.if-knows.ensures.value) c.with-with.result c.with-with.ensures.known c.make-2.new.out c.in-Rules.y c.in-Rules.more (subst (λ m. MadeOf (plan c.args.evaluator.now) (wants_of (drop (c.args.i + 1) c.args.pairs.now)) (known_of c.with-with.result) c.make-2.new.out (Ok m)) c.in-Rules.is (same_made _ _ c.in-Ok.ensures.text (wants_of (drop (c.args.i + 1) c.args.pairs.now)) (known_of c.with-with.result) c.make-2.new.out (Ok c.in-Ok-make.yes) c.in-Ok-make.ensures.made)))
 
-pub slice-bounds-make-start : goal.slice-bounds-make-start
-slice-bounds-make-start t c = omega (arith, fits_behind (plan c.args.evaluator.now) c.args.pairs.now c.args.i c.args.known (length c.args.out.now) c.requires.task c.if-is_settled.ensures.cases.0 (sym c.if-knows.ensures.value) c.with-with.result c.with-with.ensures.known c.make-2.new.out c.in-Rules.y c.in-Rules.more (subst (λ m. MadeOf (plan c.args.evaluator.now) (wants_of (drop (c.args.i + 1) c.args.pairs.now)) (known_of c.with-with.result) c.make-2.new.out (Ok m)) c.in-Rules.is (same_made _ _ c.in-Ok.ensures.text (wants_of (drop (c.args.i + 1) c.args.pairs.now)) (known_of c.with-with.result) c.make-2.new.out (Ok c.in-Ok-make.yes) c.in-Ok-make.ensures.made)))
+pub slice_bounds-make-start : goal.slice_bounds-make-start
+slice_bounds-make-start t c = omega (arith, fits_behind (plan c.args.evaluator.now) c.args.pairs.now c.args.i c.args.known (length c.args.out.now) c.requires.task c.if-is_settled.ensures.cases.0 (sym c.if-knows.ensures.value) c.with-with.result c.with-with.ensures.known c.make-2.new.out c.in-Rules.y c.in-Rules.more (subst (λ m. MadeOf (plan c.args.evaluator.now) (wants_of (drop (c.args.i + 1) c.args.pairs.now)) (known_of c.with-with.result) c.make-2.new.out (Ok m)) c.in-Rules.is (same_made _ _ c.in-Ok.ensures.text (wants_of (drop (c.args.i + 1) c.args.pairs.now)) (known_of c.with-with.result) c.make-2.new.out (Ok c.in-Ok-make.yes) c.in-Ok-make.ensures.made)))
 
 pub make-requires-3 : goal.make-requires-3
 make-requires-3 t c = (

@@ -1,4 +1,4 @@
-use Rattle.std.proofs.Common.{◌≡◌, ℕ, ◌-◌, ◌≤◌, List, length, take, drop, Ok, Err, sym, ap, ◌∙◌, subst, arith, length-take}
+use Rattle.std.proofs.Common.{◌≡◌, ℕ, ◌-◌, List, take, drop, Ok, Err, sym, ap, ◌∙◌, subst, arith, length-take}
 use Rattle.packet.specs.Policy.{Policy}
 use Rattle.text.specs.Texts.{nodes_of}
 use Rattle.text.specs.Trees.{meaning}
@@ -6,7 +6,7 @@ use Rattle.meaning.specs.declared.evaluator.Evaluator.{Evaluator}
 use Rattle.meaning.specs.Evaluators.{text_of}
 use Rattle.leaves.specs.Pairs.{wants_of}
 use Rattle.prescribed.specs.Table.{whole_table}
-use Rattle.maker.specs.declared.made.Made.TheVariants.{Rules, Over}
+use Rattle.maker.specs.declared.made.Made.TheVariants.{Rules}
 use Rattle.maker.specs.Knowing.{known_of}
 use Rattle.maker.specs.Making.{MadeOf}
 use Rattle.maker.proofs.Cuts.{same_made, same_task, same_here}
@@ -56,8 +56,8 @@ returns-in_default c =
           (subst (λ m. MadeOf (plan c.args.evaluator.now) (wants_of (drop 0 c.args.pairs.now)) (known_of c.none.result) c.make.new.out (Ok m)) c.in_default.is (same_made _ _ c.in-Ok.ensures.text (wants_of (drop 0 c.args.pairs.now)) (known_of c.none.result) c.make.new.out (Ok c.in-Ok-make.made) c.in-Ok-make.ensures.made));
     }
 
-pub slice-bounds-end-end : goal.slice-bounds-end-end
-slice-bounds-end-end c =
+pub slice_bounds-end-end : goal.slice_bounds-end-end
+slice_bounds-end-end c =
     let le = whole_within (plan c.args.evaluator.now) c.args.pairs.now c.requires.pairs c.none.result c.none.ensures.known c.requires.product c.make.new.out c.in-Rules.words c.in-Rules.field-1
     (subst (λ m. MadeOf (plan c.args.evaluator.now) (wants_of (drop 0 c.args.pairs.now)) (known_of c.none.result) c.make.new.out (Ok m)) c.in-Rules.is (same_made _ _ c.in-Ok.ensures.text (wants_of (drop 0 c.args.pairs.now)) (known_of c.none.result) c.make.new.out (Ok c.in-Ok-make.made) c.in-Ok-make.ensures.made)) c.requires.low in
     omega (arith, le, c.requires.room)
