@@ -1,5 +1,5 @@
 -- From what was read to what the desk makes of it.
-use Rattle.std.proofs.Common.{◌≡◌, ℕ, ◌<◌, cond, eqb, ◌⊎◌, List, [], length, Ok, Err, Result, sym, refl, ap, ◌∙◌, subst, inl, inr, MatchResult}
+use Rattle.std.proofs.Common.{◌≡◌, ℕ, ◌<◌, cond, ◌⊎◌, List, [], length, Ok, Err, Result, sym, refl, ap, ◌∙◌, subst, inl, inr, MatchResult}
 use Rattle.std.proofs.lemmas.Bool.{eq-eqb, ne_eqb}
 use Rattle.octets.specs.declared.fault.Fault.{Fault}
 use Rattle.octets.specs.declared.fault.Fault.TheVariants.{Memory}
@@ -7,11 +7,10 @@ use Rattle.octets.specs.Faults.{number}
 use Rattle.octets.specs.Parse.{Got, Read, Bad}
 use Rattle.text.specs.declared.node.Node.{Node}
 use Rattle.run.specs.Desk as lead
-use Rattle.wire.specs.declared.order.Order.{Order}
 use Rattle.wire.specs.declared.order.Letter.{Letter}
 use Rattle.wire.specs.Orders.{order_in}
 use Rattle.plan.specs.declared.plans.Plan.{Plan}
-use Rattle.plan.specs.Views.{plan_of, texts_of, Says}
+use Rattle.plan.specs.Views.{plan_of, texts_of}
 use Rattle.plan.specs.Laws.{GoodFor}
 use Rattle.desk.specs.declared.Desk.{Desk}
 use Rattle.desk.specs.declared.kept.Plans.{Plans}

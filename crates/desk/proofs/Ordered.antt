@@ -1,12 +1,11 @@
 -- A switch reads the orders that the desk writes.
-use Rattle.std.proofs.Common.{◌≡◌, ℕ, zero, suc, ◌<◌, ◌≤◌, true, ◌&&◌, eqb, leb, List, [], ◌∷◌, ◌++◌, map, length, get_or, Some, None, vec_items, Option, sym, refl, ap, ◌∙◌, subst, arith}
+use Rattle.std.proofs.Common.{◌≡◌, ℕ, zero, suc, ◌<◌, true, eqb, leb, List, [], ◌∷◌, ◌++◌, map, get_or, Some, None, vec_items, Option, sym, refl, ap, ◌∙◌, arith}
 use Rattle.std.proofs.lemmas.List.{append-nil}
 use Rattle.std.proofs.lemmas.Bool.{and_parts, eq-eqb, leb-true}
-use Rattle.octets.specs.Parse.{Got, Read, and_then, check, ended}
+use Rattle.octets.specs.Parse.{Read, and_then, check, ended}
 use Rattle.packet.specs.Table.{Table}
 use Rattle.table.specs.Bytes.{table_bytes}
 use Rattle.table.specs.Good.{Each, Good}
-use Rattle.table.specs.Words.{encode, most_rules}
 use Rattle.table.proofs.Encoding.{writes_back}
 use Rattle.tablebytes.specs.Format as table
 use Rattle.tablebytes.proofs.Trips.{reads_back}
@@ -16,18 +15,16 @@ use Rattle.wire.specs.declared.order.Order.{Order}
 use Rattle.wire.specs.declared.order.Order.TheVariants.{Install, Stamp, Round, Remove}
 use Rattle.wire.specs.declared.order.Reader.TheVariants as reader
 use Rattle.wire.specs.Layouts.{Layout}
-use Rattle.wire.specs.Laws.{Rounded, GoodLetter}
+use Rattle.wire.specs.Laws.{Rounded}
 use Rattle.wire.specs.Orders.{letter_bytes, order_in}
 use Rattle.wire.proofs.Trips.{orders}
 use Rattle.switch.specs.Orders.{addressed, followed, order_for}
 use Rattle.plan.specs.declared.part.Part.{Part}
 use Rattle.plan.specs.declared.plans.Plan.{Plan}
 use Rattle.plan.specs.Parts.{rules_in}
-use Rattle.plan.specs.Views.{plan_of}
-use Rattle.desk.specs.declared.kept.Plans.{Plans}
 use Rattle.desk.specs.declared.stages.Stage.{Stage}
 use Rattle.desk.specs.declared.stages.Stage.TheVariants as stages
-use Rattle.desk.specs.Given.{OrdersRead, GoodOrder, ask, order_bytes}
+use Rattle.desk.specs.Given.{OrdersRead, ask, order_bytes}
 use Rattle.desk.specs.Kept.{table_in}
 use Rattle.desk.specs.Stages.{stage_of, within}
 

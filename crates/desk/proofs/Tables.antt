@@ -1,5 +1,5 @@
 -- Which table goes with an install.
-use Rattle.std.proofs.Common.{◌≡◌, ℕ, cond, eqb, List, [], ◌∷◌, Some, None, Option, sym, refl, ap, ◌∙◌, arith}
+use Rattle.std.proofs.Common.{◌≡◌, ℕ, cond, eqb, [], ◌∷◌, Some, None, sym, refl, ap, ◌∙◌, arith}
 use Rattle.std.specs.List.{flat_map}
 use Rattle.std.proofs.lemmas.List.{append-nil}
 use Rattle.std.proofs.lemmas.Bool.{eq-eqb, ne_eqb}
@@ -12,7 +12,6 @@ use Rattle.wire.specs.declared.order.Order.{Order}
 use Rattle.wire.specs.declared.order.Order.TheVariants.{Install, Stamp, Round, Remove}
 use Rattle.wire.specs.Orders.{version_of}
 use Rattle.switch.specs.Ties.{order_of}
-use Rattle.plan.specs.declared.plans.Plan.{Plan}
 use Rattle.desk.specs.declared.kept.Plans.{Plans}
 use Rattle.desk.specs.Given.{order_bytes}
 use Rattle.desk.specs.Kept.{table_in, table_for}

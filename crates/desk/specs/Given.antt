@@ -1,7 +1,6 @@
 -- The orders that the desk gives, as bytes, and that a switch reads them.
 use Rattle.std.specs.Prelude.{◌≡◌, ℕ, ◌<◌, ◌≤◌, List, [], ◌++◌}
 use Rattle.octets.specs.Parse.{Read}
-use Rattle.packet.specs.Table.{Table}
 use Rattle.table.specs.Bytes.{table_bytes}
 use Rattle.table.specs.Good.{Each, Good}
 use Rattle.run.specs.Order.{Order, Install, Stamp, Round, Remove}

@@ -23,7 +23,7 @@ use Rattle.script.specs.declared.event.Event.{Event}
 use Rattle.script.specs.declared.event.Event.TheVariants as event
 use Rattle.plane.specs.Floors.{Floor, Same, sending, with_line, with_switch, telling_of}
 use Rattle.plane.specs.Entering.{EnteredAs, Entered}
-use Rattle.plane.specs.Arriving.{Only, Refuses, Sends, FrameIn, Marks, MarkIn, Arrived, Tells}
+use Rattle.plane.specs.Arriving.{Sends, FrameIn, MarkIn, Arrived, Tells}
 
 never : {A : Type 0} → ◌≡◌ {A = ℕ} 0 1 → A
 never e = absurd (omega (arith, e))

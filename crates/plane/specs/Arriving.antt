@@ -3,7 +3,6 @@ use Rattle.std.specs.Prelude.{◌≡◌, ℕ, List, [], ◌∷◌, ◌++◌, Som
 use Rattle.octets.specs.Parse.{Got, Read, Bad}
 use Rattle.octets.specs.Faults.{number}
 use Rattle.octets.specs.declared.fault.Fault.{Fault}
-use Rattle.packet.specs.declared.Packet.{Packet}
 use Rattle.run.specs.Switch as run
 use Rattle.wire.specs.declared.board.Wire.{Wire}
 use Rattle.wire.specs.declared.board.Wire.TheVariants.{Nothing, Outside, To}
@@ -11,7 +10,7 @@ use Rattle.wire.specs.declared.frame.Frame.{Frame}
 use Rattle.wire.specs.declared.mark.Mark.{Mark}
 use Rattle.wire.specs.Layouts.{Layout}
 use Rattle.switch.specs.declared.sends.Send.{Send}
-use Rattle.switch.specs.Arrivals.{frame_at, frame_sends, mark_at, packet_at, packet_sends}
+use Rattle.switch.specs.Arrivals.{frame_at, frame_sends, mark_at}
 use Rattle.switch.specs.Ties.{mark_of}
 use Rattle.queues.specs.declared.items.Origin.{Origin}
 use Rattle.queues.specs.declared.items.Item.{Item}

@@ -1,28 +1,16 @@
 -- What the switches of a net hold and what is on its cables, and how calls change it.
 -- x: the cables. i, p: the switch and port at which something comes in. j, q: those at which it was put on.
-use Rattle.std.specs.Prelude.{◌≡◌, ℕ, cond, List, [], ◌∷◌, ◌++◌, map, get_or, vec_items, Option}
+use Rattle.std.specs.Prelude.{◌≡◌, ℕ, List, vec_items, Option}
 use Rattle.std.specs.List.{flat_map}
-use Rattle.octets.specs.Parse.{Got, Read, Bad}
-use Rattle.octets.specs.Faults.{number}
-use Rattle.octets.specs.declared.fault.Fault.{Fault}
-use Rattle.packet.specs.declared.Packet.{Packet}
 use Rattle.run.specs.At.{at, at2}
 use Rattle.run.specs.Switch as run
-use Rattle.wire.specs.declared.board.Wire.{Wire}
-use Rattle.wire.specs.declared.board.Wire.TheVariants.{Nothing, Outside, To}
-use Rattle.wire.specs.declared.frame.Frame.{Frame}
-use Rattle.wire.specs.declared.mark.Mark.{Mark}
 use Rattle.wire.specs.Layouts.{Layout}
 use Rattle.switch.specs.declared.sends.Send.{Send}
-use Rattle.switch.specs.Arrivals.{frame_at, frame_sends, mark_at, packet_at, packet_sends}
-use Rattle.switch.specs.Ties.{mark_of}
 use Rattle.queues.specs.declared.items.Origin.{Origin}
 use Rattle.queues.specs.declared.items.Item.{Item}
-use Rattle.queues.specs.declared.items.Item.TheVariants as item
 use Rattle.queues.specs.Lines.{Lines, lines_of}
 use Rattle.queues.specs.Puts.{sent}
 use Rattle.script.specs.declared.event.Event.{Event}
-use Rattle.script.specs.declared.event.Event.TheVariants as event
 use Rattle.plane.specs.declared.Plane.{Plane}
 use Rattle.plane.specs.Machines.{switch_at}
 use Rattle.plane.specs.Told.{leaving_of}

@@ -1,5 +1,5 @@
 -- What is told of what a switch sends.
-use Rattle.std.specs.Prelude.{ℕ, List, [], ◌∷◌, Some, None, Option}
+use Rattle.std.specs.Prelude.{ℕ, List, Some, None, Option}
 use Rattle.std.specs.Option.{option_to_list}
 use Rattle.octets.specs.Parse.{Got, Read, Bad}
 use Rattle.wire.specs.declared.frame.Frame.{Frame}

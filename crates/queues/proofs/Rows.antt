@@ -1,5 +1,5 @@
 -- A row of queues of which one is read or changed.
-use Rattle.std.proofs.Common.{◌≡◌, ℕ, zero, suc, ◌+◌, ◌-◌, ◌<◌, true, ◌≢◌, List, [], ◌∷◌, ◌++◌, map, length, get_or, set, is_ok, is_err, Ok, Err, Result, sym, refl, ap, ◌∙◌}
+use Rattle.std.proofs.Common.{◌≡◌, ℕ, zero, suc, ◌<◌, true, ◌≢◌, List, [], ◌∷◌, ◌++◌, map, length, get_or, set, is_ok, is_err, Ok, Err, Result, sym, refl, ap, ◌∙◌}
 use Rattle.std.specs.declared.collections.VecDeque.{VecDeque}
 use Rattle.std.proofs.lemmas.List.{map-set, get_or-map, get_or-set_same, get_or-set_other, length-map, set-get_or}
 use Rattle.std.proofs.lemmas.Bool.{false≢true}

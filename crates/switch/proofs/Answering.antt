@@ -1,7 +1,7 @@
 -- What a switch sends after an order is read by the desk and at the other ends of its cables.
-use Rattle.std.proofs.Common.{◌≡◌, ℕ, zero, suc, ◌<◌, ◌≤◌, Bool, true, false, cond, eqb, List, [], ◌∷◌, sym, refl, ap, ◌∙◌, subst, arith}
+use Rattle.std.proofs.Common.{◌≡◌, ℕ, zero, suc, ◌<◌, ◌≤◌, Bool, true, false, cond, eqb, List, [], ◌∷◌, refl, ◌∙◌, subst}
 use Rattle.std.proofs.lemmas.Bool.{eqb-true}
-use Rattle.octets.specs.Parse.{Got, Read, Bad, and_then, ended}
+use Rattle.octets.specs.Parse.{Got, Read, Bad}
 use Rattle.octets.proofs.Yields.{Yields, yields_read, yields_then, yields_check, yields_any}
 use Rattle.run.specs.Order as order
 use Rattle.run.specs.Switch as run

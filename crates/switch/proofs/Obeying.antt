@@ -1,5 +1,5 @@
 -- An order that was carried out and answered is the run's turn.
-use Rattle.std.proofs.Common.{◌≡◌, ℕ, false, cond, List, [], ◌∷◌, map, Some, Ok, sym, refl, ap, ◌∙◌, subst}
+use Rattle.std.proofs.Common.{◌≡◌, ℕ, false, cond, List, [], ◌∷◌, map, Some, Ok, sym, ap, ◌∙◌, subst}
 use Rattle.octets.specs.Parse.{Got, Read, Bad, and_then, ended}
 use Rattle.packet.specs.Table.{Table}
 use Rattle.run.specs.Order as order

@@ -8,7 +8,7 @@ use Rattle.run.specs.At.{at}
 use Rattle.tablebytes.specs.declared.place.Place.{Place}
 use Rattle.tablebytes.specs.Places.{Stored, rules_in}
 use Rattle.switch.specs.Holding.{Places}
-use Rattle.switch.specs.Lent.{places_of, StoredAt}
+use Rattle.switch.specs.Lent.{StoredAt}
 use Rattle.switch.proofs.Marked.{by_place}
 
 put_one : (ts : List Table) (p : ℕ) (t : Table) → p < length ts → ◌≡◌ {A = Places} (λ q. get_or (set ts p t) q []) (at p t (λ q. get_or ts q []))

@@ -1,7 +1,6 @@
 -- What each message of the run's switch is in bytes.
 -- sendsOf: the list. send_of me f: what switch me sends of a message while it works on the frame f; an order has no frame, and nothing of it leaves.
 use Rattle.std.specs.Prelude.{ℕ, List, [], take}
-use Rattle.packet.specs.Packet as packets
 use Rattle.run.specs.Order as order
 use Rattle.run.specs.Switch as run
 use Rattle.wire.specs.declared.order.Letter.{Letter}

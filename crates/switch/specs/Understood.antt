@@ -1,6 +1,6 @@
 -- What a switch sends reads at its other end as just what was sent, and is never refused there.
 -- x: the cables of the net. me: the number of the switch that sends.
-use Rattle.std.specs.Prelude.{◌≡◌, ℕ, List, []}
+use Rattle.std.specs.Prelude.{◌≡◌, ℕ, []}
 use Rattle.octets.specs.Parse.{Got, Read, Bad}
 use Rattle.packet.specs.Packet.{field}
 use Rattle.run.specs.Switch as run

@@ -8,7 +8,7 @@ use Rattle.packet.specs.Table.{Table}
 use Rattle.table.specs.Words.{Sound, sound, sound_from, rules_of, rules_from, encode}
 use Rattle.table.proofs.Encoding as layout
 use Rattle.tablebytes.specs.declared.place.Place.{Place}
-use Rattle.tablebytes.specs.Filled.{written, Filled, Gave, coded, sized}
+use Rattle.tablebytes.specs.Filled.{written, Gave, coded, sized}
 use Rattle.tablebytes.specs.Format.{table, alone}
 use Rattle.tablebytes.specs.Places.{Stored, rules_in}
 use Rattle.tablebytes.proofs.Trips.{table_good}

@@ -3,7 +3,7 @@
 --   Gave ..             what a reader answers that writes the words of what it reads: the place behind them
 --   sized got           the number of words of the table that is read
 --   coded got           the words of the table that is read
-use Rattle.std.specs.Prelude.{◌≡◌, ℕ, ◌+◌, List, [], ◌∷◌, ◌++◌, length, Ok, Err, Result, slice_set}
+use Rattle.std.specs.Prelude.{◌≡◌, ℕ, ◌+◌, List, [], ◌∷◌, length, Ok, Err, Result, slice_set}
 use Rattle.octets.specs.Parse.{Got, Read, Bad, and_then}
 use Rattle.octets.specs.Faults.{number}
 use Rattle.octets.specs.declared.fault.Fault.{Fault}

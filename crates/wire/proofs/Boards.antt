@@ -1,9 +1,9 @@
 -- A board that is changed at one place.
-use Rattle.std.proofs.Common.{◌≡◌, ℕ, zero, suc, ◌+◌, ◌*◌, ◌<◌, ◌≤◌, Bool, true, false, cond, ◌&&◌, eqb, ltb, ◌≢◌, ◌⊎◌, List, length, get_or, set, replicate, sym, refl, ap, ◌∙◌, ⊎_elim, arith}
+use Rattle.std.proofs.Common.{◌≡◌, ℕ, zero, suc, ◌+◌, ◌*◌, ◌<◌, ◌≤◌, Bool, true, false, cond, ◌&&◌, eqb, ltb, ◌≢◌, List, length, get_or, set, replicate, sym, refl, ap, ◌∙◌, ⊎_elim, arith}
 use Rattle.std.proofs.lemmas.List.{get_or-set_same, get_or-set_other}
 use Rattle.std.proofs.lemmas.Bool.{cases_Bool, and_parts, and_from, and_cases, eqb-true, eqb-false, eq-eqb, ltb-true, lt-ltb, le-ltb, cond-true, cond-false}
 use Rattle.wire.specs.declared.board.Wire.{Wire}
-use Rattle.wire.specs.declared.board.Wire.TheVariants.{Nothing, Outside, To}
+use Rattle.wire.specs.declared.board.Wire.TheVariants.{Nothing}
 use Rattle.wire.specs.declared.board.Board.{Board}
 use Rattle.wire.specs.Wires.{Wires, bare, put, is_free, wires_of}
 

@@ -4,3 +4,4 @@ mod Formats
 pub mod Linked
 pub mod Listed
 pub mod Trips
+pub mod Same

@@ -3,7 +3,7 @@ use Rattle.std.proofs.Common.{◌≡◌, ℕ, zero, suc, ◌+◌, ◌-◌, ◌*�
 use Rattle.std.specs.List.{flat_map}
 use Rattle.std.proofs.lemmas.List.{append-nil, append_assoc}
 use Rattle.std.proofs.lemmas.Bool.{and_parts, lt-ltb, le-leb, ltb-true, leb-true, eqb-true, eq-eqb}
-use Rattle.octets.specs.Parse.{Got, Read, Bad, and_then, check, byte, word, word_bytes}
+use Rattle.octets.specs.Parse.{Read, Bad, and_then, byte, word, word_bytes}
 use Rattle.octets.specs.Streams.{Streams}
 use Rattle.octets.proofs.Streams.{streams_read, streams_bad, streams_byte, streams_word, streams_cond, streams_then}
 use Rattle.octets.proofs.Spells.{Spells, spells_read, spells_byte, spells_word, spells_cond, spells_then}
@@ -17,7 +17,6 @@ use Rattle.wire.specs.declared.order.Reader.TheVariants.{Switch, Desk}
 use Rattle.wire.specs.declared.order.Letter.{Letter}
 use Rattle.wire.specs.declared.board.Wire.{Wire}
 use Rattle.wire.specs.declared.mark.Mark.{Mark}
-use Rattle.wire.specs.declared.frame.Frame.{Frame}
 use Rattle.wire.specs.Numbers.{tested, kind, between, below}
 use Rattle.wire.specs.Orders.{kind_of, version_of, round_of, order_of, round_for, order, sent, of_kind, order_in, order_bytes, letter, letter_bytes}
 use Rattle.wire.specs.Marks.{mark, mark_bytes}

@@ -1,6 +1,7 @@
 pub mod Numbers
 pub mod Orders
 pub mod Marks
+pub mod Same
 pub mod Wires
 pub mod Frames
 pub mod Layouts

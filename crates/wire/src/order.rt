@@ -1,6 +1,7 @@
 // Orders, which the desk gives to switches, and the answers to them.
 ghost use Rattle.std.specs.Prelude.{◌≡◌, Decides};
 ghost use Rattle.wire.specs.Orders as spec;
+ghost use Rattle.wire.specs.Same.{same_order};
 ghost use Rattle.std.specs.Cmp.Rules.{comparing};
 ghost use Rattle.std.proofs.Common.{rules};
 
@@ -40,11 +41,14 @@ pub struct Letter {
 }
 
 impl PartialEq for Order {
-    ghost equals = { λ a b r. Decides r (a ≡ b) };
+    ghost eq = { same_order };
 
     ghost laws = { Prim.search (comparing, rules) };
 
-    fn eq(&self, other: &Order) -> bool {
+    fn eq(&self, other: &Order) -> bool
+        ensures value { result ≡ same_order self.now other.now }
+        ensures test { Decides result (self.now ≡ other.now) }
+    {
         match (*self, *other) {
             (Order::Install(v), Order::Install(w)) => v == w,
             (Order::Stamp(v), Order::Stamp(w)) => v == w,

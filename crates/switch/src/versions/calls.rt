@@ -98,7 +98,7 @@ impl Versions {
     {
         let count = self.count;
         let mut versions = self.numbers();
-        versions[0..count].sort();
+        versions[0..count].sort_unstable();
         Shown { versions, count }
     }
 }

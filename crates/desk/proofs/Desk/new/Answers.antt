@@ -1,6 +1,4 @@
-use Rattle.std.proofs.Common.{sym, refl, ap, ◌∙◌}
 use Rattle.run.specs.Desk.{Idle}
-use Rattle.desk.specs.Model.{Size}
 use Rattle.desk.proofs.Seen.{none_seen}
 use Rattle.desk.proofs.Desk.new.Goals as goal
 

@@ -1,4 +1,4 @@
-use Rattle.std.proofs.Common.{◌≡◌, ◌++◌, take, vec_items, sym, ap, ◌∙◌}
+use Rattle.std.proofs.Common.{◌++◌, take, vec_items, ap, ◌∙◌}
 use lib.Seq.{take-append_seam}
 use Rattle.std.proofs.lemmas.List.{append_assoc}
 use Rattle.table.specs.Bytes.{table_bytes}

@@ -1,4 +1,4 @@
-use Rattle.std.proofs.Common.{◌≡◌, drop, Some, sym, ap, ◌∙◌}
+use Rattle.std.proofs.Common.{drop, Some, sym, ap, ◌∙◌}
 use Rattle.wire.specs.Cables.{layout_of}
 use Rattle.queues.specs.Lines.{lines_of}
 use Rattle.queues.proofs.Laws.{first_some}

@@ -1,4 +1,4 @@
-use Rattle.std.proofs.Common.{ℕ, List, [], ◌∷◌, ◌++◌, Some, vec_items, refl, ap, ◌∙◌, arith}
+use Rattle.std.proofs.Common.{ℕ, List, ◌++◌, Some, vec_items, refl, ap, ◌∙◌, arith}
 use Rattle.octets.specs.Parse.{Read, and_then}
 use Rattle.wire.specs.Cables.{layout_of}
 use Rattle.wire.specs.Frames.{framed, frame_bytes}

@@ -1,4 +1,4 @@
-use Rattle.std.proofs.Common.{◌≡◌, ℕ, List, [], ◌∷◌, ◌++◌, drop, Some, vec_items, Vec, sym, refl, ap, ◌∙◌}
+use Rattle.std.proofs.Common.{ℕ, List, ◌++◌, drop, Some, vec_items, sym, refl, ap, ◌∙◌}
 use Rattle.wire.specs.Cables.{layout_of}
 use Rattle.switch.specs.Arrivals.{frame_at, frame_sends}
 use Rattle.switch.specs.declared.sends.Send.{Send}

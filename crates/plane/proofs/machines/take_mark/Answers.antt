@@ -1,4 +1,4 @@
-use Rattle.std.proofs.Common.{◌≡◌, ◌<◌, List, [], map, length, set, vec_items, sym, ap, ◌∙◌, arith, rules}
+use Rattle.std.proofs.Common.{◌<◌, List, [], map, length, set, vec_items, ap, ◌∙◌, arith, rules}
 use Rattle.std.proofs.lemmas.List.{map-set}
 use Rattle.octets.specs.Parse.{Read, and_then}
 use Rattle.octets.specs.Readers.{told_as}
@@ -17,9 +17,9 @@ returns c =
     record {
       value = ap (λ (l : List run.Switch). told_as (λ _. l) c.take_mark.result []) (map-set machine_of (vec_items c.args.machines.now) c.args.i c.take_mark.new.self)
           ∙ told_in (set (map machine_of (vec_items c.args.machines.now)) c.args.i) c.take_mark.result (mark_at (layout_of c.args.cables.now) c.args.i c.args.port c.args.bytes.now) (machine_of c.take_mark.new.self)
-          (λ (m : Mark). (run.take_mark c.args.port (mark_of m) (machine_of c.index-mut.result.now)).after) c.take_mark.ensures.value
+          (λ (m : Mark). (run.take_mark c.args.port (mark_of m) (machine_of c.index_mut.result.now)).after) c.take_mark.ensures.value
           ∙ ap (λ (s : run.Switch). and_then (mark_at (layout_of c.args.cables.now) c.args.i c.args.port c.args.bytes.now) (λ m e. Read (set (map machine_of (vec_items c.args.machines.now)) c.args.i (run.take_mark c.args.port (mark_of m) s).after) e))
-          (at_index (vec_items c.args.machines.now) c.args.i c.index-mut.result.now c.index-mut.ensures.value within);
-      same = unchanged (vec_items c.args.machines.now) c.args.i c.index-mut.result.now c.take_mark.new.self c.take_mark.result c.index-mut.ensures.value within c.take_mark.ensures.same;
+          (at_index (vec_items c.args.machines.now) c.args.i c.index_mut.result.now c.index_mut.ensures.value within);
+      same = unchanged (vec_items c.args.machines.now) c.args.i c.index_mut.result.now c.take_mark.new.self c.take_mark.result c.index_mut.ensures.value within c.take_mark.ensures.same;
       len = search rules;
     }

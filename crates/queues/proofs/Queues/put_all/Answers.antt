@@ -7,7 +7,7 @@ pub returns-in_err-make_room : goal.returns-in_err-make_room
 returns-in_err-make_room c =
     let told = c.in_err-make_room.ensures in
     record {
-      cases = MatchResult-from_err c.from-residual.result _ _ c.from-residual.ensures.0 (λ _. told.same);
+      cases = MatchResult-from_err c.from_residual.result _ _ c.from_residual.ensures.0 (λ _. told.same);
       succeeds = λ roomy. absurd (false≢true (told.succeeds roomy));
       switches = told.switches;
     }

@@ -8,8 +8,8 @@ pub returns : goal.returns
 returns c =
     let row = vec_items c.args.lines.now in
     let within : c.args.k < length row = omega (arith, c.args.lines.now.ok.0) in
-    let q = c.index-mut.result.now in
-    let read = c.index-mut.ensures.value in
+    let q = c.index_mut.result.now in
+    let read = c.index_mut.ensures.value in
     let reserved = c.reserve.ensures in
     record {
       items = kept_at deque_items [] row c.args.k q within read _ reserved.items;

@@ -11,7 +11,7 @@ returns-in_err-reserve c =
     let told = c.in_err-reserve.ensures in
     record {
       items = told.items ∙ inv.1;
-      room = λ ok. absurd (never_both c.from-residual.result c.from-residual.ensures.0 ok);
+      room = λ ok. absurd (never_both c.from_residual.result c.from_residual.ensures.0 ok);
       succeeds = λ room. absurd (false≢true (told.succeeds (omega (arith, room p c.loop-p-test.true, inv.3 p (omega arith)))));
       len = told.len ∙ inv.0;
     }

@@ -7,9 +7,9 @@ use Rattle.queues.proofs.lines.take.Goals as goal
 pub returns : goal.returns
 returns c =
     let row = vec_items c.args.lines.now in
-    let q = c.index-mut.result.now in
+    let q = c.index_mut.result.now in
     let within : c.args.k < length row = omega (arith, c.args.lines.now.ok.0) in
-    let read = c.index-mut.ensures.value in
+    let read = c.index_mut.ensures.value in
     record {
       value = c.take.ensures.value ∙ ap spec.first (read_at deque_items [] row c.args.k q within read);
       items = changed_at deque_items [] row c.args.k q within read _ (drop 1) c.take.ensures.items;

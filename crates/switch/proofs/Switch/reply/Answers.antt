@@ -1,19 +1,17 @@
 -- The marks come first, and then the answer.
-use Rattle.std.proofs.Common.{◌≡◌, Bool, cond, List, [], ◌∷◌, ◌++◌, map, sym, ap, ◌∙◌}
-use Rattle.std.proofs.lemmas.List.{map_append}
+use Rattle.std.proofs.Common.{◌≡◌, Bool, cond, List, [], ◌∷◌, ◌++◌, map, sym, ◌∙◌}
+use Rattle.std.proofs.lemmas.List.{map-append}
 use Rattle.run.specs.Order as order
-use Rattle.run.specs.Switch.{Message, Reply, done, marks_for}
-use Rattle.wire.specs.Cables.{layout_of}
+use Rattle.run.specs.Switch.{Message, Reply}
 use Rattle.switch.specs.declared.sends.Send.{Send}
-use Rattle.switch.specs.Model.{switch_of}
 use Rattle.switch.specs.Sending.{no_frame, send_of}
-use Rattle.switch.specs.Ties.{answer_of, order_of, wires_at}
+use Rattle.switch.specs.Ties.{answer_of}
 use Rattle.switch.proofs.Tied.{same_answer}
 use Rattle.switch.proofs.Switch.reply.Goals as goal
 
 joined : (F : Message → Send) (marks : List Message) (a b : order.Answer) (p q : Bool) (front all : List Send) → a ≡ b → p ≡ q → front ≡ map F marks → all ≡ front ++ map F (cond p (Reply a ∷ []) []) → all ≡ map F (marks ++ cond q (Reply b ∷ []) [])
 joined F marks a b p q front all e d f g =
-    g ∙ (λ k. f k ++ map F (cond (d k) (Reply (e k) ∷ []) [])) ∙ sym (map_append F marks (cond q (Reply b ∷ []) []))
+    g ∙ (λ k. f k ++ map F (cond (d k) (Reply (e k) ∷ []) [])) ∙ sym (map-append F marks (cond q (Reply b ∷ []) []))
 
 pub returns : goal.returns
 returns c =

@@ -1,5 +1,5 @@
 -- A mark more at a port with a cable.
-use Rattle.std.proofs.Common.{◌≡◌, [], ◌∷◌, ◌++◌, map, sym, refl, ap, ◌∙◌, arith}
+use Rattle.std.proofs.Common.{◌≡◌, [], ◌∷◌, ◌++◌, map, ap, ◌∙◌, arith}
 use Rattle.run.specs.Switch.{marks_on}
 use Rattle.wire.specs.Cables.{layout_of}
 use Rattle.switch.specs.declared.sends.Send.TheVariants.{Mark}

@@ -1,5 +1,5 @@
 -- One port that is behind decides; a port is passed if it has no cable or has come far enough.
-use Rattle.std.proofs.Common.{◌≡◌, sym, refl, ap, ◌∙◌, arith}
+use Rattle.std.proofs.Common.{sym, refl, ◌∙◌, arith}
 use Rattle.run.specs.Switch.{all_reach}
 use Rattle.wire.specs.Cables.{layout_of}
 use Rattle.switch.specs.Marking.{latest_of}

@@ -16,7 +16,7 @@ words_there c =
 pub invariant_of-self : goal.invariant_of-self
 invariant_of-self c =
     let room : 593920 ≤ vec_capacity c.args.self.now.words = c.args.self.now.room in
-    (subst Sound (sym (words_there c)) c.words.ensures.sound, (omega (arith, c.truncate.ensures.capacity, c.extend_from_slice.ensures.capacity), tt))
+    record { sound = subst Sound (sym (words_there c)) c.words.ensures.sound; room = omega (arith, c.truncate.ensures.capacity, c.extend_from_slice.ensures.capacity) }
 
 pub returns : goal.returns
 returns c = record { after = ap rules_of (words_there (goal.at.returns c).After-extend_from_slice ∙ c.words.ensures.value) }

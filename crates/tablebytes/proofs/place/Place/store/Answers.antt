@@ -6,7 +6,7 @@ use Rattle.tablebytes.proofs.place.Place.store.Goals as goal
 pub invariant_of-self : goal.invariant_of-self
 invariant_of-self c =
     let room : 593920 ≤ vec_capacity c.args.self.now.words = c.args.self.now.room in
-    ((stands c.args.bytes.now (vec_items c.refill.new.words) c.refill.ensures.items).sound, (omega (arith, c.refill.ensures.capacity), tt))
+    record { sound = (stands c.args.bytes.now (vec_items c.refill.new.words) c.refill.ensures.items).sound; room = omega (arith, c.refill.ensures.capacity) }
 
 pub returns : goal.returns
 returns c = record { cases = stored c.args.bytes.now _ _ (stands c.args.bytes.now (vec_items c.refill.new.words) c.refill.ensures.items).read }

@@ -1,5 +1,5 @@
 -- Only ports below 32 have a wire, and the wires are those of a net.
-use Rattle.std.proofs.Common.{sym, arith}
+use Rattle.std.proofs.Common.{sym}
 use Rattle.wire.specs.Wires.{wires_of}
 use Rattle.wire.proofs.Boards.{past_board, nothing_free}
 use Rattle.wire.proofs.Linked.{sound_all}

@@ -2,9 +2,9 @@
 use Rattle.std.proofs.Common.{◌≡◌, ℕ, List, [], ◌∷◌, Decides, ap, arith}
 use Rattle.std.proofs.lemmas.Bool.Decides.{Decides-like}
 use Rattle.std.proofs.lemmas.Slice.Eq.{bytes_eq-Decides}
-use Rattle.desk.specs.declared.orders.Order.{Order}
-use Rattle.desk.specs.declared.orders.Order.TheVariants.{Install, Stamp, Round, Remove}
-use Rattle.desk.specs.Same.{numbers_of, same_order}
+use Rattle.wire.specs.declared.order.Order.{Order}
+use Rattle.wire.specs.declared.order.Order.TheVariants.{Install, Stamp, Round, Remove}
+use Rattle.wire.specs.Same.{numbers_of, same_order}
 
 -- an order's numbers tell which one it is
 abbrev first_of : List ℕ → ℕ → ℕ

@@ -2,8 +2,8 @@
 use Rattle.std.specs.Prelude.{ℕ, Bool, List, [], ◌∷◌, nat_eq}
 use Rattle.std.specs.Ordering.{on}
 use Rattle.std.specs.Cmp.Lexicographic.{pointwise}
-use Rattle.desk.specs.declared.orders.Order.{Order}
-use Rattle.desk.specs.declared.orders.Order.TheVariants.{Install, Stamp, Round, Remove}
+use Rattle.wire.specs.declared.order.Order.{Order}
+use Rattle.wire.specs.declared.order.Order.TheVariants.{Install, Stamp, Round, Remove}
 
 -- the place of an order's kind among the kinds, and its numbers
 abbrev pub numbers_of : Order → List ℕ
