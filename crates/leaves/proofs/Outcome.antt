@@ -60,8 +60,8 @@ few_copies s qs e =
     omega (arith, sym (length-map qs (λ q. q.fields)) ∙ ap length e ∙ length-map (take s.count s.packets) (λ q. q.fields), length-take s.count s.packets, s.within)
 
 -- the last node is what the text means
-pub last-answered : (ns : List Node) (k : ℕ) (p : packets.Packet) (r : Result Copies Fault) → 1 ≤ length ns → k ≡ length ns - 1 → CopiesAt ns k p r → Answered (meaning ns) p r
-last-answered ns k p r some e h = subst (λ j. Answered (policy_at (trees ns) j) p r) e (when_true _ _ (lt-ltb k (length ns) (omega arith)) h)
+pub last_answered : (ns : List Node) (k : ℕ) (p : packets.Packet) (r : Result Copies Fault) → 1 ≤ length ns → k ≡ length ns - 1 → CopiesAt ns k p r → Answered (meaning ns) p r
+last_answered ns k p r some e h = subst (λ j. Answered (policy_at (trees ns) j) p r) e (when_true _ _ (lt-ltb k (length ns) (omega arith)) h)
 
 -- each copy once gives the same outs
 pub leaf_given : (ns : List Node) (p : packets.Packet) (s : Copies) (qs : List Packet) (o : Outs) → Answered (meaning ns) p (Ok s) →

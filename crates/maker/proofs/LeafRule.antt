@@ -72,6 +72,6 @@ module _ (a : Policy) (known : List Want) (p : Packet) (is : p ≡ sample a know
         },
       )
 
-  pub leaf-crowded : (words : List ℕ) → overfull a p ≡ true → crowded a [] known ≡ true
+  pub leaf_crowded : (words : List ℕ) → overfull a p ≡ true → crowded a [] known ≡ true
   unfolding crowded
-  leaf-crowded words crowd = ap (overfull a) (sym is) ∙ crowd
+  leaf_crowded words crowd = ap (overfull a) (sym is) ∙ crowd

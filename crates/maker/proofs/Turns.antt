@@ -144,9 +144,9 @@ module _ (e m : ℕ) (ws back : List ℕ) (le : e ≤ length ws) (inside : m ≤
   back_is = ap (take m) (drop_at (take e ws) _ e (length-take-le e ws le)) ∙ take-append-le m back _ inside
 
 -- where no pair is left there is room for a rule
-pub room-for-leaf : (a : Policy) (ps : List Pair) (i : ℕ) (k : Known) (words : ℕ) → Task a ps i k words → length ps ≤ i → 290 ≤ words
+pub room_for_leaf : (a : Policy) (ps : List Pair) (i : ℕ) (k : Known) (words : ℕ) → Task a ps i k words → length ps ≤ i → 290 ≤ words
 unfolding leaves
-room-for-leaf a ps i k words task le = omega (arith, task.room, ap (λ l. leaves l (known_of k)) (wants_none ps i le))
+room_for_leaf a ps i k words task le = omega (arith, task.room, ap (λ l. leaves l (known_of k)) (wants_none ps i le))
 
 -- the whole keeps its length
 pub whole_length : (e : ℕ) (ws back : List ℕ) → e ≤ length ws → length back ≡ length ws - e → length (put_mid e (length ws - e) ws back) ≡ length ws

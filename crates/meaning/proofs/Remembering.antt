@@ -56,6 +56,6 @@ right_now ns m h = ∥∥₁_elim h (right_prop ns m) (λ x. x)
 pub all_alike : {X : Type 0} (P : X → Type 0) (m n : ℕ) (x : X) (xs : List X) → m ≡ n → xs ≡ replicate m x → P x → AllWithin P xs 0 n
 all_alike P m n x xs is e h = λ k d _ lt. subst P (sym (ap (λ l. get_or l k d) (e ∙ ap (λ j. replicate j x) is) ∙ get_or-replicate n k x d lt)) h
 
-pub nobody-gives : (ns : List Node) (k : ℕ) (p : packets.Packet) (s : Copies) → length ns ≤ k → listing s ≡ [] → Answered (policy_at (trees ns) k) p (Ok s)
+pub nobody_gives : (ns : List Node) (k : ℕ) (p : packets.Packet) (s : Copies) → length ns ≤ k → listing s ≡ [] → Answered (policy_at (trees ns) k) p (Ok s)
 unfolding holds
-nobody-gives ns k p s h e = answer_of_lem _ _ p (Ok s) (ap as_policy (tree_past ns k (a_test (isnt always)) h)) (keep_refused (isnt always) p s refl e)
+nobody_gives ns k p s h e = answer_of_lem _ _ p (Ok s) (ap as_policy (tree_past ns k (a_test (isnt always)) h)) (keep_refused (isnt always) p s refl e)

@@ -12,8 +12,8 @@ use Rattle.tablebytes.specs.Filled.{written, Filled, Gave, Stored, sized}
 use Rattle.tablebytes.specs.Format.{table, alone}
 use Rattle.tablebytes.proofs.Trips.{table_good}
 
-when-so : (P Q : Type 0) (b : Bool) → b ≡ true → P → MatchBool b P Q
-when-so P Q b e p = subst (λ v. MatchBool v P Q) (sym e) p
+when_so : (P Q : Type 0) (b : Bool) → b ≡ true → P → MatchBool b P Q
+when_so P Q b e p = subst (λ v. MatchBool v P Q) (sym e) p
 
 -- where there is room for all the words, they stand between what was there
 written_between : (out : List ℕ) (at : ℕ) (ws : List ℕ) → at + length ws ≤ length out → written out at ws ≡ take at out ++ (ws ++ drop (at + length ws) out)
@@ -40,12 +40,12 @@ module _ (bs left before after : List ℕ) (t : Table) (is : table bs ≡ Read t
   all : alone bs ≡ Read t []
   all = ap (λ g. and_then g ended) is
 
-  same-table : (end : ℕ) → (f : Filled encode (table bs) left 0 before after end) → t ≡ f.what
-  same-table end f = let e : Read t [] ≡ Read f.what left = sym is ∙ f.read in cc
+  same_table : (end : ℕ) → (f : Filled encode (table bs) left 0 before after end) → t ≡ f.what
+  same_table end f = let e : Read t [] ≡ Read f.what left = sym is ∙ f.read in cc
 
   front : (end : ℕ) → Filled encode (table bs) left 0 before after end → length (encode t) ≤ length before → (end ≡ length (encode t)) × (after ≡ encode t ++ drop (length (encode t)) before)
   front end f room =
-      let same = same-table end f in (
+      let same = same_table end f in (
         omega (arith, f.place, ap (λ u. length (encode u)) same),
         f.words ∙ ap (λ u. written before 0 (encode u)) (sym same) ∙ written_between before 0 (encode t) (omega arith)
             ∙ ap (λ k. encode t ++ drop k before) (zero-add (length (encode t))),
@@ -56,7 +56,7 @@ module _ (bs left before after : List ℕ) (t : Table) (is : table bs ≡ Read t
       let p = front end f room in
       let n = length (encode t) in
       let fits = le-leb n (length before) room in
-      subst (λ g. Stored g before after (Ok end)) (sym all) (when-so _ _ (leb n (length before)) fits (ap Ok p.0, p.1))
+      subst (λ g. Stored g before after (Ok end)) (sym all) (when_so _ _ (leb n (length before)) fits (ap Ok p.0, p.1))
   stored (Err fault) e room = never (sym e ∙ is)
 
   pub stands : (r : Result ℕ Fault) → Gave encode (table bs) left 0 before after r → length (encode t) ≤ length before →

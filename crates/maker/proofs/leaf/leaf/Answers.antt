@@ -7,7 +7,7 @@ use Rattle.table.specs.Words.{out_words}
 use Rattle.leaves.specs.Outs.{settings_of, outs_of}
 use Rattle.leaves.specs.Pairs.{want_of}
 use Rattle.maker.specs.Knowing.{known_of}
-use Rattle.maker.proofs.LeafRule.{few_mapped, leaf_made, leaf-crowded}
+use Rattle.maker.proofs.LeafRule.{few_mapped, leaf_made, leaf_crowded}
 use Rattle.maker.proofs.leaf.leaf.Goals as goal
 
 pub returns-in-Err : goal.returns-in-Err
@@ -16,7 +16,7 @@ returns-in-Err c =
     let is = ap (λ p. p.fields) c.sample.ensures.value ∙ c.requires.sample in
     record {
       text = c.in-Err.ensures.text;
-      made = (leaf-crowded a (known_of c.args.known) _ is c.args.out.now c.in-Err.ensures.cases.0, c.in-Err.ensures.cases.1);
+      made = (leaf_crowded a (known_of c.args.known) _ is c.args.out.now c.in-Err.ensures.cases.0, c.in-Err.ensures.cases.1);
     }
 
 pub returns : goal.returns

@@ -18,7 +18,7 @@ use Rattle.maker.specs.Knowing.{known_of}
 use Rattle.maker.specs.Making.{rule_room, MadeOf}
 use Rattle.maker.specs.Tasks.{Task}
 use Rattle.maker.proofs.Recursing.{wants_none}
-use Rattle.maker.proofs.Turns.{task_known, turn_known, room-for-leaf, room_for_one, room_for_both, task_yes, task_no, fits_behind, turn_crowded_y, turn_crowded_n, turn_over_y, turn_over_n, turn_joined, front_stays, back_is, whole_length}
+use Rattle.maker.proofs.Turns.{task_known, turn_known, room_for_leaf, room_for_one, room_for_both, task_yes, task_no, fits_behind, turn_crowded_y, turn_crowded_n, turn_over_y, turn_over_n, turn_joined, front_stays, back_is, whole_length}
 use Rattle.maker.proofs.making.+make.Goals as goal
 
 -- what is made for a text is made for one that is the same
@@ -37,7 +37,7 @@ leaf-requires t c =
     record {
       sample = c.requires.task.sample;
       low = c.requires.task.low;
-      room = room-for-leaf (plan c.args.evaluator.now) c.args.pairs.now c.args.i c.args.known _ c.requires.task c.if-i-pairs.true;
+      room = room_for_leaf (plan c.args.evaluator.now) c.args.pairs.now c.args.i c.args.known _ c.requires.task c.if-i-pairs.true;
     }
 
 pub returns-then-i-pairs : goal.returns-then-i-pairs

@@ -1,7 +1,7 @@
 use Rattle.std.proofs.Common.{◌-◌, length, Ok, ap, ◌∙◌, arith}
 use Rattle.text.specs.Texts.{nodes_of}
 use Rattle.meaning.specs.Evaluators.{text_of}
-use Rattle.leaves.proofs.Outcome.{few_copies, last-answered, leaf_given}
+use Rattle.leaves.proofs.Outcome.{few_copies, last_answered, leaf_given}
 use Rattle.leaves.proofs.outs.Outs.of.Goals as goal
 
 pub from_copies-requires : goal.from_copies-requires
@@ -15,6 +15,6 @@ returns-in-Ok c =
       text = c.copies.ensures.text;
       cases =
           leaf_given ns c.args.p.fields c.in-Ok.copies _ c.from_copies.result
-          (last-answered ns _ c.args.p.fields (Ok c.in-Ok.copies) (omega (arith, long)) (ap (λ n. n - 1) long) c.in-Ok.ensures.cases)
+          (last_answered ns _ c.args.p.fields (Ok c.in-Ok.copies) (omega (arith, long)) (ap (λ n. n - 1) long) c.in-Ok.ensures.cases)
           c.as_slice.ensures.value c.from_copies.ensures.value;
     }
