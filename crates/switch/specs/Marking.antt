@@ -1,5 +1,5 @@
 -- What marks in memory stand for in the run.
--- mark_of: a mark. latestOf: the latest marks by port. Drawn: which ports have a cable.
+-- mark_of: a mark. latest_of: the latest marks by port. Drawn: which ports have a cable.
 use Rattle.std.specs.Prelude.{◌≡◌, ℕ, ◌<◌, Bool, false, cond, List, length, slice_index_or}
 use Rattle.run.specs.At.{at}
 use Rattle.run.specs.Net.{Wire}
