@@ -1,95 +1,85 @@
--- A packet at its place in a rising list.
-use Rattle.std.proofs.Common.{◌≡◌, ℕ, zero, suc, ◌-◌, ◌<◌, ◌≤◌, ◌⊎◌, List, [], ◌∷◌, length, get_or, take, drop, sym, refl, ap, ◌∙◌, subst, inl, inr, arith}
+-- Packets that are sorted and each once are a rising list of the same set.
+use Rattle.std.proofs.Common.{◌≡◌, ℕ, zero, suc, ◌<◌, Bool, List, [], ◌∷◌, length, get_or, Ordering, Less, sym, refl, ap, ◌∙◌, subst, ⊎_elim, arith}
 use mathlib.Core.List.Memᴰ
 use mathlib.Core.List.{Memᴰ}
-use Rattle.std.proofs.lemmas.List.{take_rest}
-use Rattle.std.specs.List.{insert}
-use Rattle.packet.specs.Packet.{Packet, SameSet, Before}
-use Rattle.packet.specs.declared.Packet as code
-use Rattle.table.specs.Listed.{fields_of}
-use Rattle.trees.proofs.Alikes.{set_all, set_is, set_then, set_more, set_swap}
-use Rattle.compare.specs.Sets.{Rising, Listed, Between}
+use Rattle.std.specs.Cmp.Lexicographic.{slice_cmp}
+use Rattle.std.specs.List.{Contains, dedup}
+use Rattle.std.specs.List.Sorted.{IsPermutation, IsSorted, IsStrictlySortedBy}
+use Rattle.std.specs.Ordering.{nat_cmp}
+use Rattle.std.specs.Str.{bytes_eq}
+use Rattle.std.proofs.lemmas.List.Kept.{Contains-dedup, Contains-from_dedup, IsStrictlySortedBy-dedup}
+use Rattle.std.proofs.lemmas.List.Sorted.{Contains-permutation, IsPermutation-sym}
+use Rattle.std.proofs.lemmas.Slice.Eq.{bytes_eq-Decides}
+use Rattle.packet.specs.Packet.{Packet}
+use Rattle.packet.specs.Table.{Setting, Table, outputs, decided, sent}
+use Rattle.packet.specs.declared.packets.Packet as code
+use Rattle.packet.specs.contracts.packets.PacketOrd.TheImpl.Laws as laws
+use Rattle.packet.specs.contracts.packets.PacketEq.TheImpl.Laws as equal
+use Rattle.packet.specs.Listed.{fields_of}
+use Rattle.packet.proofs.Order.{ordered}
+use Rattle.packet.proofs.Sets.{once_same_set}
+use Rattle.prescribed.proofs.Changes.{length_set_all}
+use Rattle.compare.specs.Sets.{Rising, Listed, Eight}
 
--- one packet alone, and one in front of a rising list
-front : (p : Packet) (ps : List Packet) → Rising ps → (0 < length ps → Before p (get_or ps 0 [])) → Rising (p ∷ ps)
-unfolding Rising
-front p [] r b = tt
-front p (q ∷ ps) r b = (b (omega arith), r)
+abbrev order : code.Packet → code.Packet → Ordering
+order p q = slice_cmp nat_cmp p.fields q.fields
 
-rest_rising : (p : Packet) (ps : List Packet) → Rising (p ∷ ps) → Rising ps
-unfolding Rising
-rest_rising p [] r = tt
-rest_rising p (q ∷ ps) r = r.1
+abbrev same : code.Packet → code.Packet → Bool
+same p q = bytes_eq p.fields q.fields
 
-next_before : (p : Packet) (ps : List Packet) → Rising (p ∷ ps) → 0 < length ps → Before p (get_or ps 0 [])
-unfolding Rising
-next_before p [] r h = absurd (omega arith)
-next_before p (q ∷ ps) r h = r.0
+-- packets of eight fields that rise by their order
+rising_sorted : (ps : List code.Packet) → Eight (fields_of ps) → IsStrictlySortedBy order ps → Rising (fields_of ps)
+unfolding Rising IsStrictlySortedBy
+rising_sorted [] long s = tt
+rising_sorted (p ∷ []) long s = tt
+rising_sorted (p ∷ (q ∷ ps)) long s = (
+  ordered p.fields q.fields Less (long p.fields (Memᴰ.head refl) ∙ sym (long q.fields (Memᴰ.tail (Memᴰ.head refl)))) (sym s.0.0),
+  rising_sorted (q ∷ ps) (λ r m. long r (Memᴰ.tail m)) s.1,
+)
 
-rising_insert : (i : ℕ) (ps : List Packet) (p : Packet) → Rising ps → Between ps p i → Rising (insert ps i p)
-rising_insert zero ps p r b = front p ps r b.before
-rising_insert (suc i) [] p r b = absurd (omega (arith, b.within))
-rising_insert (suc zero) (q ∷ ps) p r b =
-    front q (p ∷ ps) (front p ps (rest_rising q ps r) (λ h. b.before (omega arith))) (λ h. b.after 0 refl)
-rising_insert (suc (suc i)) (q ∷ []) p r b = absurd (omega (arith, b.within))
-rising_insert (suc (suc i)) (q ∷ (s ∷ ps)) p r b =
-    front q (s ∷ insert ps i p)
-    (rising_insert (suc i) (s ∷ ps) p (rest_rising q (s ∷ ps) r)
-    (record { within = omega (arith, b.within); after = λ j e. b.after (suc j) (ap suc e); before = λ h. b.before (omega arith) }))
-    (λ h. next_before q (s ∷ ps) r (omega arith))
+-- packets of a list, and their fields
+there : (ps : List code.Packet) (k : ℕ) (d p : code.Packet) → k < length ps → get_or ps k d ≡ p → Memᴰ p.fields (fields_of ps)
+there [] k d p l e = absurd (omega arith)
+there (q ∷ ps) zero d p l e = Memᴰ.head (ap (λ x. x.fields) (sym e))
+there (q ∷ ps) (suc k) d p l e = Memᴰ.tail (there ps k d p (omega arith) e)
 
-set_insert : (i : ℕ) (ps : List Packet) (p : Packet) → i ≤ length ps → SameSet (insert ps i p) (p ∷ ps)
-set_insert zero ps p h = set_all (p ∷ ps)
-set_insert (suc i) [] p h = absurd (omega arith)
-set_insert (suc i) (q ∷ ps) p h = set_then (set_more q (set_insert i ps p (omega arith))) (set_swap q p ps)
+from : (ps : List code.Packet) (q : Packet) → Memᴰ q (fields_of ps) → (p : code.Packet) × Contains ps p × (q ≡ p.fields)
+from [] q m = elim m [ ]
+from (p ∷ ps) q m =
+    ⊎_elim
+    (λ e. (p, (0, omega arith, refl), e))
+    (λ n. let r = from ps q n in (r.0, (suc r.1.0, omega (arith, r.1.1), r.1.2), r.2))
+    (Memᴰ.cases_cons m)
 
-fields_insert : (i : ℕ) (v : List code.Packet) (x : code.Packet) → fields_of (insert v i x) ≡ insert (fields_of v) i x.fields
-fields_insert zero v x = refl
-fields_insert (suc i) [] x = refl
-fields_insert (suc i) (y ∷ v) x = ap (λ l. y.fields ∷ l) (fields_insert i v x)
+kept : (ps qs : List code.Packet) → ((p : code.Packet) → Contains ps p → Contains qs p) → (q : Packet) → Memᴰ q (fields_of ps) → Memᴰ q (fields_of qs)
+kept ps qs h q m =
+    let r = from ps q m in
+    let c = h r.0 r.1 in
+    subst (λ x. Memᴰ x (fields_of qs)) (sym r.2) (there qs c.0 r.0 r.0 c.1 c.2)
 
-pub listed_insert : (v w : List code.Packet) (i : ℕ) (x : code.Packet) → Rising (fields_of v) → Between (fields_of v) x.fields i → w ≡ insert v i x →
-    Listed (fields_of w) (x.fields ∷ fields_of v)
-listed_insert v w i x r b e =
-    let is : fields_of w ≡ insert (fields_of v) i x.fields = ap fields_of e ∙ fields_insert i v x in
-    record {
-      same = set_then (set_is is) (set_insert i (fields_of v) x.fields b.within);
-      rising = subst Rising (sym is) (rising_insert i (fields_of v) x.fields r b);
-    }
+module _ (ps sorted : List code.Packet) (long : Eight (fields_of ps)) (moved : IsPermutation ps sorted) (rises : IsSorted order sorted) where
+  more : (p : code.Packet) → Contains ps p → Contains (dedup same sorted) p
+  more p c = Contains-dedup equal.laws-law (λ x y e i. record { fields = (bytes_eq-Decides x.fields y.fields).0 e i }) sorted p (Contains-permutation ps sorted p moved c)
 
--- a packet that is there already
-pub listed_there : (ps : List Packet) (p : Packet) → Rising ps → Memᴰ p ps → Listed ps (p ∷ ps)
-listed_there ps p r m = record { same = λ q. (λ n. Memᴰ.tail n, λ n. step q (Memᴰ.cases_cons n)); rising = r }
-  where
-    step : (q : Packet) → (q ≡ p) ⊎ Memᴰ q ps → Memᴰ q ps
-    step q (inl e) = subst (λ x. Memᴰ x ps) (sym e) m
-    step q (inr n) = n
+  less : (p : code.Packet) → Contains (dedup same sorted) p → Contains ps p
+  less p c = Contains-permutation sorted ps p (IsPermutation-sym ps sorted moved) (Contains-from_dedup same sorted p c)
 
-pub listed_none : (ps : List Packet) → ps ≡ [] → Listed ps []
-unfolding Rising
-listed_none ps e = record { same = set_is e; rising = subst Rising (sym e) tt }
+  pub listed_sorted : (set : List code.Packet) → set ≡ dedup same sorted → Listed (fields_of set) (fields_of ps)
+  listed_sorted set e =
+      subst (λ l. Listed (fields_of l) (fields_of ps)) (sym e)
+      (record {
+        same = λ q. (kept (dedup same sorted) ps less q, kept ps (dedup same sorted) more q);
+        rising =
+            rising_sorted (dedup same sorted) (λ q m. long q (kept (dedup same sorted) ps less q m))
+            (IsStrictlySortedBy-dedup laws.total-law laws.matches_eq-law sorted rises);
+      })
 
-pub listed_more : (ps qs rs : List Packet) (p : Packet) → Listed ps (p ∷ qs) → SameSet qs rs → Listed ps (p ∷ rs)
-listed_more ps qs rs p l s = record { same = set_then l.same (set_more p s); rising = l.rising }
+-- what a table sends of a packet
+outputs_long : (n : ℕ) (os : List (List Setting)) (p : Packet) → length p ≡ n → (q : Packet) → Memᴰ q (outputs os p) → length q ≡ n
+unfolding outputs
+outputs_long n [] p e q m = elim m [ ]
+outputs_long n (o ∷ os) p e q m =
+    ⊎_elim (λ is. ap length is ∙ length_set_all o p ∙ e) (λ k. outputs_long n os p e q k) (Memᴰ.cases_cons m)
 
-pub fields_at : (v : List code.Packet) (i : ℕ) (d : code.Packet) → i < length v → get_or (fields_of v) i [] ≡ (get_or v i d).fields
-fields_at [] i d h = absurd (omega arith)
-fields_at (x ∷ v) zero d h = refl
-fields_at (x ∷ v) (suc i) d h = fields_at v i d (omega arith)
-
-pub fields_length : (v : List code.Packet) → length (fields_of v) ≡ length v
-fields_length [] = refl
-fields_length (x ∷ v) = ap suc (fields_length v)
-
-pub member_at : (ps : List Packet) (i : ℕ) (p : Packet) → i < length ps → p ≡ get_or ps i [] → Memᴰ p ps
-member_at [] i p h e = absurd (omega arith)
-member_at (q ∷ ps) zero p h e = Memᴰ.head e
-member_at (q ∷ ps) (suc i) p h e = Memᴰ.tail (member_at ps i p (omega arith) e)
-
-pub none_left : (v : List code.Packet) → length v ≤ 0 → fields_of v ≡ []
-none_left [] h = refl
-none_left (x ∷ v) h = absurd (omega arith)
-
-pub first_and_rest : (v : List code.Packet) (d : code.Packet) → 1 ≤ length v → fields_of v ≡ (get_or v 0 d).fields ∷ fields_of (take (length v - 1) (drop 1 v))
-first_and_rest [] d h = absurd (omega arith)
-first_and_rest (x ∷ v) d h = ap (λ l. x.fields ∷ fields_of l) (sym (take_rest (x ∷ v) 1))
+pub sent_eight : (t : Table) (p : Packet) → length p ≡ 8 → Eight (sent t p)
+sent_eight t p e q m = outputs_long 8 (decided t p) p e q ((once_same_set (outputs (decided t p) p) q).0 m)

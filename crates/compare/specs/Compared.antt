@@ -1,14 +1,13 @@
 -- What is answered of the policies of two texts.
-use Rattle.std.specs.Prelude.{◌≡◌, ◌<◌, ◌⊎◌, List, vec_items}
+use Rattle.std.specs.Prelude.{◌≡◌, ◌<◌, ◌⊎◌, List, vec_items, Some, None, Option}
 use Rattle.octets.specs.declared.fault.Fault.{Fault}
 use Rattle.octets.specs.declared.fault.Fault.TheVariants.{Memory}
 use Rattle.octets.specs.Faults.{number}
 use Rattle.packet.specs.Packet.{Packet, IsPacket, SameSet, Before}
 use Rattle.packet.specs.Policy.{Policy, copies}
-use Rattle.table.specs.Listed.{fields_of}
+use Rattle.packet.specs.Listed.{fields_of}
 use Rattle.prescribed.specs.Fit.{fault_of}
-use Rattle.compare.specs.declared.answer.Compared.{Compared}
-use Rattle.compare.specs.declared.answer.Compared.TheVariants.{Same, Differs}
+use Rattle.compare.specs.declared.answer.Difference.{Difference}
 use Rattle.compare.specs.Sets.{Listed}
 
 -- every packet has the same copies
@@ -23,9 +22,9 @@ pub record Smallest (a b : Policy) (r : Packet) (ps qs : List Packet) : Type 0 w
   pub first : Listed ps (copies a r)
   pub second : Listed qs (copies b r)
 
-abbrev pub Answers : Policy → Policy → Compared → Type 0
-Answers a b Same = (fault_of a ≡ 0) × (fault_of b ≡ 0) × Everywhere a b
-Answers a b (Differs d) =
+abbrev pub Answers : Policy → Policy → Option Difference → Type 0
+Answers a b None = (fault_of a ≡ 0) × (fault_of b ≡ 0) × Everywhere a b
+Answers a b (Some d) =
     (fault_of a ≡ 0) × (fault_of b ≡ 0) × Smallest a b d.packet.fields (fields_of (vec_items d.first)) (fields_of (vec_items d.second))
 
 -- the first text's fault counts before the second's

@@ -1,5 +1,6 @@
 -- Sets of packets in rising order.
-use Rattle.std.specs.Prelude.{◌≡◌, ℕ, suc, ◌<◌, ◌≤◌, List, [], ◌∷◌, length, slice_index_or}
+use Rattle.std.specs.Prelude.{◌≡◌, List, [], ◌∷◌, length}
+use mathlib.Core.List.{Memᴰ}
 use Rattle.packet.specs.Packet.{Packet, SameSet, Before}
 
 -- each comes before the next
@@ -13,8 +14,6 @@ pub record Listed (ps qs : List Packet) : Type 0 where
   pub same : SameSet ps qs
   pub rising : Rising ps
 
--- p belongs at place i of the list: behind what comes before it, and before the rest
-pub record Between (ps : List Packet) (p : Packet) (i : ℕ) : Type 0 where
-  pub within : i ≤ length ps
-  pub after : (j : ℕ) → i ≡ suc j → Before (slice_index_or ps j []) p
-  pub before : i < length ps → Before p (slice_index_or ps i [])
+-- packets of eight fields
+abbrev pub Eight : List Packet → Type 0
+Eight ps = (p : Packet) → Memᴰ p ps → length p ≡ 8

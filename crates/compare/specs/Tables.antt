@@ -6,9 +6,7 @@ use Rattle.octets.specs.Faults.{number}
 use Rattle.packet.specs.Packet.{Packet, IsPacket, SameSet, Before}
 use Rattle.packet.specs.Policy.{Policy}
 use Rattle.packet.specs.Table.{Table, Right, sent}
-use Rattle.packet.specs.declared.Packet as code
-use Rattle.maker.specs.declared.maker.NoTable.{NoTable}
-use Rattle.maker.specs.declared.maker.NoTable.TheVariants.{Refused, Short}
+use Rattle.packet.specs.declared.packets.Packet as code
 use Rattle.prescribed.specs.Fit.{fault_of}
 use Rattle.table.specs.Words.{Sound, rules_of}
 
@@ -20,11 +18,6 @@ pub record Stands (a : Policy) (ws : List ℕ) : Type 0 where
 
 abbrev pub Unfit : Policy → Fault → Type 0
 Unfit a f = (f ≡ Memory) ⊎ ((0 < fault_of a) × (number f ≡ fault_of a))
-
--- too few words are none of a text's faults
-abbrev pub fault_by : NoTable → Fault
-fault_by (Refused f) = f
-fault_by Short = Memory
 
 -- the smallest packet of which two tables send different copies
 pub record FirstSent (s t : Table) (r : Packet) : Type 0 where

@@ -8,10 +8,3 @@ pub struct Difference {
     pub first: Vec<Packet>,
     pub second: Vec<Packet>,
 }
-
-#[derive(Drop)]
-pub enum Compared {
-    // They do the same to every packet.
-    Same,
-    Differs(Difference),
-}

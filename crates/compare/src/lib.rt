@@ -6,5 +6,5 @@ mod sets;
 mod tables;
 mod texts;
 
-pub use answer::{Compared, Difference};
+pub use answer::Difference;
 pub use texts::compare;

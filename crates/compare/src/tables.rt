@@ -4,9 +4,9 @@ ghost use Rattle.text.specs.Texts.{nodes_of};
 ghost use Rattle.text.specs.Trees.{meaning};
 ghost use Rattle.table.specs.Views.{rules_in};
 ghost use Rattle.maker.specs.Makers.{policy_of, room};
-ghost use Rattle.compare.specs.Tables.{Stands, Unfit, fault_by, Found};
+ghost use Rattle.compare.specs.Tables.{Stands, Unfit, Found};
 
-use maker::{Maker, NoTable};
+use maker::Maker;
 use octets::Fault;
 use packet::Packet;
 use std::alloc::{AllocError, Global};
@@ -14,39 +14,13 @@ use table::Table;
 use text::Text;
 use trees::Trees;
 
-// With enough words lent there is always room.
-fn fault(why: NoTable) -> Fault
-    ensures value { result ≡ fault_by why }
-{
-    match why {
-        NoTable::Refused(fault) => fault,
-        NoTable::Short => Fault::Memory,
-    }
-}
-
-// Makes the table at the front of the lent words.
-fn fill(maker: &mut Maker, words: &mut [u16]) -> Result<usize, Fault>
-    requires room { room (policy_of maker.old) ≤ length words.old }
-    ensures cases { MatchResult result
-        (λ n. Stands (policy_of maker.old) (take n words.new))
-        (Unfit (policy_of maker.old)) }
-{
-    match maker.make(words) {
-        Ok(size) => Ok(size),
-        Err(why) => Err(fault(why)),
-    }
-}
-
 // The words of the text's table.
 pub fn table_of(heap: Global, text: Text) -> Result<Vec<u16>, Fault>
     ensures cases { MatchResult result (λ v. Stands (meaning (nodes_of text)) v.items) (Unfit (meaning (nodes_of text))) }
 {
     let mut maker = Maker::new(heap, text)?;
     let mut words = vec![in heap; 0u16; maker.room()]?;
-    let size = match fill(&mut maker, words.as_mut_slice()) {
-        Ok(size) => size,
-        Err(fault) => return Err(fault),
-    };
+    let size = maker.make(words.as_mut_slice())?;
     words.truncate(size);
     Ok(words)
 }
@@ -59,8 +33,8 @@ pub fn difference(
 ) -> Result<Option<Packet>, AllocError>
     ensures made { IfOk result (Found (rules_in first.entry) (rules_in second.entry)) }
 {
-    let mut trees = Trees::new(heap)?;
+    let mut trees = Trees::new(heap);
     let a = trees.add(first)?;
     let b = trees.add(second)?;
-    trees.first_difference(heap, a, b)
+    trees.first_difference(a, b)
 }

@@ -1,13 +1,19 @@
 // The words behind a program's name: options first, then files.
-ghost use Rattle.std.specs.Prelude.{◌≡◌, false, map, string_bytes};
-ghost use Rattle.console.specs.Words.{asked, is_option, sort_of, word_of};
+ghost use Rattle.std.specs.Prelude.{◌≡◌, map, string_bytes};
+ghost use Rattle.console.specs.declared.input.Writing.TheVariants.{Notation};
+ghost use Rattle.console.specs.Words.{asked, told, word_of};
+
+use crate::input::Writing;
 
 #[derive(Clone, Copy, Debug)]
-pub enum Asked {
+pub enum Asked<'a> {
     // How the program is used.
     Help,
-    // The files are the words from this place on.
-    Run { bytes: bool, files: usize },
+    // How the files are written, and their names.
+    Run {
+        writing: Writing,
+        files: &'a [String],
+    },
     // An option that the program has not.
     Wrong,
 }
@@ -21,55 +27,34 @@ enum Word {
     File,
 }
 
-// A word that begins with a hyphen.
-fn is_option(word: &[u8]) -> bool
-    ensures value { result ≡ is_option word.now }
+fn word_of(word: &str, may: bool) -> Word
+    ensures value { result ≡ word_of may word.now }
 {
-    if word.is_empty() {
-        false
-    } else {
-        word[0] == b'-'
-    }
-}
-
-fn chosen(may: bool, help: bool, bytes: bool, option: bool) -> Word
-    ensures value { result ≡ sort_of may help bytes option }
-{
-    if help {
+    if word == "--help" {
         Word::AskHelp
-    } else if may && bytes {
+    } else if may && word == "--bytes" {
         Word::AskBytes
-    } else if option {
+    } else if word.starts_with('-') {
         Word::Unknown
     } else {
         Word::File
     }
 }
 
-fn word_of(word: &str, may: bool) -> Word
-    ensures value { result ≡ word_of may word.now }
-{
-    let help = word == "--help";
-    let bytes = word == "--bytes";
-    let option = is_option(word.as_bytes());
-    chosen(may, help, bytes, option)
-}
-
 // What the words ask for.
-pub fn read(words: &[String], may: bool) -> Asked
-    ensures value { result ≡ asked may false 0 (map string_bytes words.now) }
+pub fn read(words: &[String], may: bool) -> Asked<'_>
+    ensures value { told result ≡ asked may Notation (map string_bytes words.now) }
 {
-    let mut bytes = false;
-    for i in 0..words.len() {
-        match word_of(words[i].as_str(), may) {
+    let mut writing = Writing::Notation;
+    let mut files = words;
+    while let [word, rest @ ..] = files {
+        match word_of(word.as_str(), may) {
             Word::AskHelp => return Asked::Help,
-            Word::AskBytes => bytes = true,
+            Word::AskBytes => writing = Writing::Bytes,
             Word::Unknown => return Asked::Wrong,
-            Word::File => return Asked::Run { bytes, files: i },
+            Word::File => break,
         }
+        files = rest;
     }
-    Asked::Run {
-        bytes,
-        files: words.len(),
-    }
+    Asked::Run { writing, files }
 }

@@ -4,8 +4,8 @@ use Rattle.std.proofs.lemmas.Bool.Decides.{Decides-like}
 use Rattle.packet.specs.Table.{Table}
 use Rattle.run.specs.Order as run
 use Rattle.run.specs.Desk.{Desk, orders_of}
-use Rattle.desk.specs.declared.orders.Order.{Order}
-use Rattle.desk.specs.declared.orders.Order.TheVariants.{Install, Stamp, Round, Remove}
+use Rattle.wire.specs.declared.order.Order.{Order}
+use Rattle.wire.specs.declared.order.Order.TheVariants.{Install, Stamp, Round, Remove}
 use Rattle.desk.specs.Model.{Awaits, listed}
 
 first_of : List run.Order → Option Order

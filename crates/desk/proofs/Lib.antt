@@ -1,3 +1,2 @@
 pub mod Awaited
 pub mod Seen
-pub mod Same

@@ -1,5 +1,5 @@
 -- Who has answered: nobody at first, and not all while one has not.
-use Rattle.std.proofs.Common.{◌≡◌, ℕ, zero, suc, ◌<◌, Bool, false, T, get_or, replicate, refl, subst}
+use Rattle.std.proofs.Common.{◌≡◌, ℕ, zero, suc, false, get_or, replicate, refl}
 use Rattle.run.specs.Desk.{Desk, Stage}
 use Rattle.desk.specs.Model.{begins}
 
@@ -10,6 +10,3 @@ none_of (suc n) (suc i) = none_of n i
 
 pub none_seen : (v w : ℕ) (g : Stage) → ◌≡◌ {A = Desk} (record { from = v; to = w; stage = g; seen = λ i. get_or (replicate 24 false) i false }) (begins v w g)
 none_seen v w g = λ k. record { from = v; to = w; stage = g; seen = λ i. none_of 24 i k }
-
-pub not_all : (seen : ℕ → Bool) (n i : ℕ) → i < n → seen i ≡ false → ((k : ℕ) → k < n → T (seen k)) → ⊥
-not_all seen n i h e all = subst T e (all i h)

@@ -9,8 +9,8 @@ use Rattle.run.specs.Desk as lead
 use Rattle.run.specs.Desk.{AllSeen, orders_of, heard, onwards, next_version, changed}
 use Rattle.desk.specs.declared.Stage.{Stage}
 use Rattle.desk.specs.declared.Stage.TheVariants.{Idle, Installing, Stamping, Flushing, Removing}
-use Rattle.desk.specs.declared.orders.Order.{Order}
-use Rattle.desk.specs.declared.orders.Order.TheVariants.{Install, Stamp, Round, Remove}
+use Rattle.wire.specs.declared.order.Order.{Order}
+use Rattle.wire.specs.declared.order.Order.TheVariants.{Install, Stamp, Round, Remove}
 use Rattle.desk.specs.declared.Desk.{Desk}
 
 -- the switches that a desk can lead

@@ -12,7 +12,7 @@ impl Desk {
         requires { i < most }
         ensures after { desk_of result ≡ heard i (desk_of self) }
     {
-        self.seen[i as usize] = true;
+        self.seen[usize::from(i)] = true;
         self
     }
 
@@ -20,42 +20,32 @@ impl Desk {
     pub fn all_seen(self, switches: u8) -> bool
         ensures test { Decides result (AllSeen switches (desk_of self)) }
     {
-        if switches as usize > SWITCHES {
-            return false;
-        }
-        for i in 0..switches {
-            if !self.seen[i as usize] {
-                return false;
-            }
-        }
-        true
+        let switches = usize::from(switches);
+        switches <= SWITCHES && self.seen[..switches].iter().all(|seen| *seen)
     }
 
     // The answer is the one to the order of the stage.
     pub fn awaits(self, answer: Order) -> bool
         ensures test { Decides result (Awaits (desk_of self) answer) }
     {
-        match self.order() {
-            None => false,
-            Some(order) => order == answer,
-        }
+        self.order() == Some(answer)
     }
 
     // Hears an answer of a switch; when the first switches have all answered, the desk goes on.
     pub fn accept(self, answer: Order, switch: u8, switches: u8, rounds: u8) -> Result<Desk, Fault>
         ensures after { MatchResult result (λ d. Heard switches rounds switch answer (desk_of self) (desk_of d)) (λ e. Refused switch answer (desk_of self) e) }
     {
-        if switch as usize >= SWITCHES {
+        if usize::from(switch) >= SWITCHES {
             return Err(Fault::Range);
         }
         if !self.awaits(answer) {
             return Err(Fault::OtherOrder);
         }
         let heard = self.hear(switch);
-        if heard.all_seen(switches) {
-            Ok(heard.go_on(rounds))
+        Ok(if heard.all_seen(switches) {
+            heard.go_on(rounds)
         } else {
-            Ok(heard)
-        }
+            heard
+        })
     }
 }

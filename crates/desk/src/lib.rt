@@ -2,15 +2,15 @@
 #![tactic(auto)]
 
 mod answers;
-pub mod orders;
 mod steps;
 
-pub use orders::Order;
+// An order, or the answer to it; the table of an install goes beside it.
+pub use wire::Order;
 
 // The switches that a desk can lead.
 pub const SWITCHES: usize = 24;
 
-#[derive(Clone, Copy, Debug, PartialEq)]
+#[derive(Clone, Copy, Debug, PartialEq, Eq)]
 pub enum Stage {
     Idle,
     Installing,

@@ -49,24 +49,18 @@ impl Desk {
     pub fn next_version(self) -> Option<u16>
         ensures value { result ≡ next_version (desk_of self) }
     {
-        if self.to < 65535 {
-            Some(self.to + 1)
-        } else {
-            None
-        }
+        self.to.checked_add(1)
     }
 
     // A change begins, unless another one is under way or the version is the last one.
     pub fn change(self) -> Result<Desk, Fault>
         ensures after { told result ≡ begun (desk_of self) }
     {
-        let Stage::Idle = self.stage else {
+        if self.stage != Stage::Idle {
             return Err(Fault::Busy);
-        };
-        match self.next_version() {
-            None => Err(Fault::LastVersion),
-            Some(to) => Ok(unheard(self.from, to, Stage::Installing)),
         }
+        let to = self.next_version().ok_or(Fault::LastVersion)?;
+        Ok(unheard(self.from, to, Stage::Installing))
     }
 
     // All have answered: on to the next stage, with this many rounds between stamping and removing.

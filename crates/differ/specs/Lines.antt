@@ -4,12 +4,10 @@ use Rattle.std.specs.List.{flat_map}
 use Rattle.packet.specs.Packet.{Packet, field}
 
 -- the eight fields with blanks between them
-abbrev pub next : ℕ → List ℕ
-next x = codes " " ++ decimal x
-
 abbrev pub packet_text : Packet → List ℕ
 packet_text p =
-    decimal (field 0 p) ++ (next (field 1 p) ++ (next (field 2 p) ++ (next (field 3 p) ++ (next (field 4 p) ++ (next (field 5 p) ++ (next (field 6 p) ++ next (field 7 p)))))))
+    decimal (field 0 p) ++ (codes " " ++ (decimal (field 1 p) ++ (codes " " ++ (decimal (field 2 p) ++ (codes " " ++ (decimal (field 3 p) ++ (codes " " ++
+    (decimal (field 4 p) ++ (codes " " ++ (decimal (field 5 p) ++ (codes " " ++ (decimal (field 6 p) ++ (codes " " ++ decimal (field 7 p))))))))))))))
 
 abbrev pub more_text : List Packet → List ℕ
 more_text ps = flat_map (λ p. codes " | " ++ packet_text p) ps

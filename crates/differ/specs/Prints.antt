@@ -28,11 +28,9 @@ Answered (Whole ns) (Whole ms) out = Told (meaning ns) (meaning ms) out
 Answered (Whole ns) (Refused n line) out = ⊥
 Answered (Refused n line) other out = ⊥
 
--- want of memory, or why the first text does not fit, or else why the second one is refused
-abbrev pub FirstCounts : Policy → Refusal → Refusal → Type 0
-FirstCounts a second e =
-    ((e.fault ≡ Memory) × (e.line ≡ None))
-    ⊎ (((0 < fault_of a) × (number e.fault ≡ fault_of a) × (e.line ≡ None)) ⊎ ((fault_of a ≡ 0) × (e ≡ second)))
+-- want of memory, or why a text does not fit
+abbrev pub Misfit : Policy → Refusal → Type 0
+Misfit a e = ((e.fault ≡ Memory) × (e.line ≡ None)) ⊎ ((0 < fault_of a) × (number e.fault ≡ fault_of a) × (e.line ≡ None))
 
 abbrev pub Rejected : Outcome → Outcome → Refusal → Type 0
 Rejected (Whole ns) (Whole ms) e = NotCompared (meaning ns) (meaning ms) e.fault × (e.line ≡ None)

@@ -2,7 +2,8 @@
 #![tactic(auto)]
 
 use answer::answer;
-use console::{Asked, arguments, refusal};
+use console::ending::{done, fail, unreadable};
+use console::{Asked, Writing, arguments, refusal};
 use std::process::ExitCode;
 use std::{env, fs, io};
 
@@ -18,64 +19,38 @@ Reads two texts and prints `same`, or the smallest packet whose copies differ, w
   --help   prints this
 ";
 
-// Writes a line to standard error; the program is to end with status 1.
-fn fail(rt: &HostRuntime, line: String) -> io::Result<ExitCode> {
-    rt.eprintln(line)?;
-    Ok(ExitCode::FAILURE)
-}
-
-// Writes a text to standard output; the program is to end with status 0.
-fn done(rt: &HostRuntime, text: &str) -> io::Result<ExitCode> {
-    rt.print(text)?;
-    Ok(ExitCode::SUCCESS)
-}
-
-fn unreadable(rt: &HostRuntime, file: &String) -> io::Result<ExitCode> {
-    fail(
-        rt,
-        refusal::unreadable(rt.alloc(), "differ", file.as_str())?,
-    )
-}
-
 // Where the second file can't be read the first is tested all the same.
-fn compare(rt: &HostRuntime, bytes: bool, first: &String, second: &String) -> io::Result<ExitCode> {
+fn compare(
+    rt: &HostRuntime,
+    writing: Writing,
+    first: &String,
+    second: &String,
+) -> io::Result<ExitCode> {
     let heap = rt.alloc();
     let Ok(one) = fs::read(rt, first.as_str()) else {
-        return unreadable(rt, first);
+        return unreadable(rt, "differ", first.as_str());
     };
-    let (two, is_read) = match fs::read(rt, second.as_str()) {
-        Ok(two) => (two, true),
-        Err(_) => (one.clone()?, false),
-    };
-    match answer(heap, bytes, one.as_slice(), two.as_slice()) {
-        Ok(lines) => if is_read {
+    let two = fs::read(rt, second.as_str()).ok();
+    let there = two.as_ref().unwrap_or(&one);
+    match answer(heap, writing, one.as_slice(), there.as_slice()) {
+        Ok(lines) => if two.is_some() {
             done(rt, lines.as_str())
         } else {
-            unreadable(rt, second)
+            unreadable(rt, "differ", second.as_str())
         },
-        Err(refusal) => {
-            let line = refusal::refused(heap, "differ", refusal.line, refusal.fault)?;
-            fail(rt, line)
-        }
+        Err(refusal) => fail(rt, refusal::refused(heap, "differ", refusal)?),
     }
 }
 
 fn main(rt: HostRuntime) -> io::Result<ExitCode> {
     let heap = rt.alloc();
-    let mut words = Vec::new(heap);
-    for word in env::args(&rt)?.skip(1) {
-        words.push(word)?;
+    let words: Vec<String> = env::args(&rt)?.skip(1).collect(heap)?;
+    match arguments::read(words.as_slice(), true) {
+        Asked::Help => done(&rt, HELP),
+        Asked::Run {
+            writing,
+            files: [first, second],
+        } => compare(&rt, writing, first, second),
+        Asked::Run { .. } | Asked::Wrong => fail(&rt, refusal::misused(heap, "differ", USAGE)?),
     }
-    let (bytes, files) = match arguments::read(words.as_slice(), true) {
-        Asked::Help => return done(&rt, HELP),
-        Asked::Wrong => return fail(&rt, refusal::misused(heap, "differ", USAGE)?),
-        Asked::Run { bytes, files } => (bytes, files),
-    };
-    if words.len().saturating_sub(files) != 2 {
-        return fail(&rt, refusal::misused(heap, "differ", USAGE)?);
-    }
-    let (Some(first), Some(second)) = (words.get(files), words.get(files.saturating_add(1))) else {
-        return fail(&rt, refusal::misused(heap, "differ", USAGE)?);
-    };
-    compare(&rt, bytes, first, second)
 }

@@ -1,32 +1,21 @@
--- How many values a field has among the pairs from place i on, and the product over the fields.
-use Rattle.std.proofs.Common.{◌≡◌, ℕ, zero, suc, ◌+◌, ◌*◌, ◌<◌, ◌≤◌, cond, eqb, List, [], ◌∷◌, length, get_or, drop, sym, ap, ◌∙◌, ⊎_elim, mul_assoc, one-mul, le-mul_of_pos_right, add-one, arith}
-use Rattle.std.proofs.lemmas.List.{at_drop_more, at_drop_all, get_or-map, length-map}
-use Rattle.std.proofs.lemmas.Bool.{cond-true, cond-false, cond_both, eq-eqb, ne_eqb, cases_lt}
+-- How many values a field has among the pairs, and the product over the fields.
+use Rattle.std.proofs.Common.{◌≡◌, ℕ, zero, suc, ◌+◌, ◌*◌, ◌≤◌, Bool, true, false, cond, eqb, count_by, List, [], ◌∷◌, sym, refl, ap, ◌∙◌, ⊎_elim, mul_assoc, one-mul, le-mul_of_pos_right, add-one, arith}
+use Rattle.std.proofs.lemmas.Bool.{cond_both, cases_lt}
+use Rattle.std.proofs.lemmas.List.Sums.{sum_by-cons}
 use Rattle.packet.specs.Table.{Want}
 use Rattle.prescribed.specs.Fit.{values_of, product}
-use Rattle.leaves.specs.declared.pairs.Pair.{Pair}
-use Rattle.leaves.specs.Pairs.{want_of, wants_of}
+use Rattle.packet.specs.declared.pair.Pair.{Pair}
+use Rattle.leaves.specs.Pairs.{wants_of}
 
-module _ (ps : List Pair) (f i : ℕ) where
-  abbrev from : ℕ → ℕ
-  from k = values_of f (drop k (wants_of ps))
+one_more : (b : Bool) (v n : ℕ) → v ≡ 1 + n → cond b (v + 1) v ≡ 1 + (cond b 1 0 + n)
+one_more true v n e = omega arith
+one_more false v n e = omega arith
 
-  module _ (d : Pair) (lt : i < length ps) where
-    one_pair : from i ≡ cond (eqb (get_or ps i d).field f) (from (i + 1) + 1) (from (i + 1))
-    unfolding values_of
-    one_pair =
-        at_drop_more (values_of f) (wants_of ps) i (want_of d) (omega (arith, length-map ps want_of))
-        ∙ ap (λ w. cond (eqb w.at f) (from (i + 1) + 1) (from (i + 1))) (get_or-map want_of ps i d (want_of d) lt)
-
-    pub value_counted : (get_or ps i d).field ≡ f → from i ≡ from (i + 1) + 1
-    value_counted e = one_pair ∙ cond-true _ _ _ (eq-eqb _ _ e)
-
-    pub value_passed : ((get_or ps i d).field ≡ f → ⊥) → from i ≡ from (i + 1)
-    value_passed ne = one_pair ∙ cond-false _ _ _ (ne_eqb _ _ ne)
-
-  pub values_all : length ps ≤ i → from i ≡ 1
-  unfolding values_of
-  values_all h = at_drop_all (values_of f) (wants_of ps) i (omega (arith, length-map ps want_of))
+-- one more than how many of the pairs have the field
+pub values_counted : (f : ℕ) (ps : List Pair) → values_of f (wants_of ps) ≡ 1 + count_by (λ p. eqb p.field f) ps
+unfolding values_of
+values_counted f [] = refl
+values_counted f (p ∷ ps) = one_more (eqb p.field f) _ _ (values_counted f ps) ∙ ap (λ n. 1 + n) (sym (sum_by-cons (λ q. cond (eqb q.field f) 1 0) p ps))
 
 values_some : (f : ℕ) (ws : List Want) → 1 ≤ values_of f ws
 unfolding values_of

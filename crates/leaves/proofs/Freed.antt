@@ -1,8 +1,9 @@
 -- What is named depends only on which pairs there are, and so does the smallest value that isn't.
-use Rattle.std.proofs.Common.{◌≡◌, ℕ, zero, suc, ◌+◌, ◌-◌, ◌<◌, ◌≤◌, Bool, true, false, cond, ◌&&◌, ◌||◌, eqb, ◌⊎◌, List, [], ◌∷◌, ◌++◌, length, get_or, drop, sym, refl, ap, ◌∙◌, ⊎_elim, arith}
+use Rattle.std.proofs.Common.{◌≡◌, ℕ, zero, suc, ◌+◌, ◌<◌, ◌≤◌, Bool, true, false, cond, ◌&&◌, ◌||◌, eqb, ◌⊎◌, List, [], ◌∷◌, ◌++◌, length, get_or, Option, None, Some, MatchOption, unwrap_or, sym, refl, ap, ◌∙◌, ⊎_elim, arith}
 use mathlib.Core.List.{Memᴰ}
-use Rattle.std.proofs.lemmas.List.{drop_more, drop_all, length-append, ext_get_or}
-use Rattle.std.proofs.lemmas.Bool.{both_ways, false≢true, and_parts, or_cases, eqb-true, cond_both, cond-true, cond-false, cases_eq, cases_lt, or_left}
+use Rattle.std.specs.List.{list_any, zip}
+use Rattle.std.proofs.lemmas.List.{length-append, ext_get_or}
+use Rattle.std.proofs.lemmas.Bool.{both_ways, false≢true, and_parts, or_cases, eqb-true, cond_both, cases_eq, cases_lt}
 use Rattle.packet.specs.Packet.{Packet, field}
 use Rattle.packet.specs.Policy.{Policy}
 use Rattle.packet.specs.Table.{Want}
@@ -13,7 +14,6 @@ use Rattle.prescribed.specs.Table.{tested_in, put_in, names, free_from, free, un
 use Rattle.prescribed.proofs.Free.{named, free_unnamed}
 use Rattle.prescribed.proofs.Members.{SameElements}
 use Rattle.leaves.specs.Under.{one, name_of, marked, Under}
-use Rattle.leaves.proofs.Marking.{marked_none}
 
 pub named_there : (f x : ℕ) (ws : List Want) → names f x ws ≡ true → Memᴰ (record { at = f; value = x }) ws
 unfolding names
@@ -61,30 +61,22 @@ free_same f ws vs h =
       free_least f vs (length vs) 0 (free f ws) (omega arith) (sym (h (free f ws)) ∙ free_unnamed f ws),
     )
 
--- the search for the free value, which has come to x
-module _ (f : ℕ) (ws : List Want) (x : ℕ) where
-  pub free_here : (n : ℕ) → names f x ws ≡ false → free_from n f x ws ≡ x
-  unfolding free_from
-  free_here zero h = refl
-  free_here (suc n) h = cond-false (names f x ws) _ _ h
+free_upto : (f : ℕ) (ws : List Want) (n x : ℕ) → free_from n f x ws ≤ x + n
+unfolding free_from
+free_upto f ws zero x = omega arith
+free_upto f ws (suc n) x = cond_both (names f x ws) _ _ (λ y. y ≤ x + suc n) (λ e. omega (arith, free_upto f ws n (x + 1))) (λ e. omega arith)
 
-  module _ (le : x ≤ length ws) (is : free_from (length ws - x) f x ws ≡ free f ws) (h : names f x ws ≡ true) where
-    pub free_room : x < length ws
-    unfolding free_from
-    free_room =
-        ⊎_elim
-        (λ lt. lt)
-        (λ ge.
-        let none : length ws - x ≡ 0 = omega arith in
-        let e = ap (λ n. free_from n f x ws) (sym none) ∙ is in
-        absurd (both_ways (names f x ws) (ap (λ y. names f y ws) e ∙ free_unnamed f ws) h))
-        (cases_lt x (length ws))
-
-    pub free_next : free_from (length ws - (x + 1)) f (x + 1) ws ≡ free f ws
-    unfolding free_from
-    free_next =
-        let more : length ws - x ≡ suc (length ws - (x + 1)) = omega (arith, free_room) in
-        sym (cond-true (names f x ws) _ _ h) ∙ ap (λ n. free_from n f x ws) (sym more) ∙ is
+-- the first of n values that isn't named, where there are more values than pairs
+pub free_found : (f : ℕ) (ws : List Want) (n : ℕ) (r : Option ℕ) → length ws < n →
+    MatchOption r ((k : ℕ) → 0 ≤ k → k < n → names f k ws ≡ true) (λ i. (0 ≤ i) × (i < n) × (names f i ws ≡ false) × ((k : ℕ) → 0 ≤ k → k < i → names f k ws ≡ true)) →
+    unwrap_or r 0 ≡ free f ws
+free_found f ws n None lt h =
+    absurd (both_ways (names f (free f ws) ws) (free_unnamed f ws) (h (free f ws) (omega arith) (omega (arith, free_upto f ws (length ws) 0))))
+free_found f ws n (Some i) lt h =
+    ⊎_elim
+    (λ l. absurd (both_ways (names f (free f ws) ws) (free_unnamed f ws) (h.3 (free f ws) (omega arith) l)))
+    (λ ge. omega (arith, free_least f ws (length ws) 0 i (omega arith) h.2))
+    (cases_lt (free f ws) i)
 
 names_append : (f x : ℕ) (ws vs : List Want) → names f x (ws ++ vs) ≡ (names f x ws || names f x vs)
 unfolding names
@@ -93,33 +85,19 @@ names_append f x (w ∷ ws) vs =
     ap (λ b. (eqb w.at f && eqb w.value x) || b) (names_append f x ws vs)
     ∙ elim (eqb w.at f && eqb w.value x) as (λ b. (b || (names f x ws || names f x vs)) ≡ ((b || names f x ws) || names f x vs)) [ true ↦ refl | false ↦ refl ]
 
--- the marked nodes from place k on
-module _ (f x : ℕ) (row : List Bool) (ns : List Node) (k : ℕ) (lt : k < length ns) (room : length ns ≤ length row) where
-  abbrev from : ℕ → Bool
-  from i = names f x (marked name_of (drop i row) (drop i ns))
-
-  abbrev here : List Want
-  here = name_of (get_or ns k Always)
-
-  one_node : from k ≡ (names f x (cond (get_or row k false) here []) || from (k + 1))
-  unfolding marked
-  one_node =
-      (λ i. names f x (marked name_of (drop_more row k false (omega arith) i) (drop_more ns k Always lt i)))
-      ∙ names_append f x (cond (get_or row k false) here []) (marked name_of (drop (k + 1) row) (drop (k + 1) ns))
-
-  pub name_found : get_or row k false ≡ true → names f x here ≡ true → from k ≡ true
-  name_found m h = one_node ∙ or_left _ _ (ap (λ b. names f x (cond b here [])) m ∙ h)
-
-  pub name_unmarked : get_or row k false ≡ false → from k ≡ from (k + 1)
-  unfolding names
-  name_unmarked m = one_node ∙ ap (λ b. names f x (cond b here []) || from (k + 1)) m
-
-  pub name_passed : get_or row k false ≡ true → names f x here ≡ false → from k ≡ from (k + 1)
-  name_passed m h = one_node ∙ ap (λ b. b || from (k + 1)) (ap (λ b. names f x (cond b here [])) m ∙ h)
-
-pub names_ended : (f x : ℕ) (row : List Bool) (ns : List Node) (k : ℕ) → length ns ≤ k → names f x (marked name_of (drop k row) (drop k ns)) ≡ false
-unfolding names
-names_ended f x row ns k le = ap (λ l. names f x (marked name_of (drop k row) l)) (drop_all k ns le) ∙ ap (names f x) (marked_none name_of (drop k row))
+-- a marked node names it
+pub names_any : (f x : ℕ) (row : List Bool) (ns : List Node) → names f x (marked name_of row ns) ≡ list_any (λ q. q.1 && names f x (name_of q.0)) (zip ns row)
+unfolding marked names
+names_any f x [] [] = refl
+names_any f x [] (n ∷ ns) = refl
+names_any f x (b ∷ row) [] = refl
+names_any f x (b ∷ row) (n ∷ ns) =
+    names_append f x (cond b (name_of n) []) (marked name_of row ns)
+    ∙ (λ i. own b i || names_any f x row ns i)
+  where
+    own : (c : Bool) → names f x (cond c (name_of n) []) ≡ (c && names f x (name_of n))
+    own true = refl
+    own false = refl
 
 pub names_few : (row : List Bool) (ns : List Node) → length (marked name_of row ns) ≤ length ns
 unfolding marked

@@ -16,9 +16,10 @@ use Rattle.prescribed.specs.Table.{tested_in, pairs_of}
 use Rattle.prescribed.proofs.Members.{all_member}
 use Rattle.prescribed.proofs.Orders.{want_ordered, pairs_tested}
 use Rattle.prescribed.proofs.Rising.{rising_all}
-use Rattle.leaves.specs.declared.pairs.Pair.{Pair}
+use Rattle.packet.specs.Pairs.{want_of}
+use Rattle.packet.specs.declared.pair.Pair.{Pair}
 use Rattle.leaves.specs.declared.pairs.Pairs.{Pairs}
-use Rattle.leaves.specs.Pairs.{want_of, wants_of, pairs_in}
+use Rattle.leaves.specs.Pairs.{wants_of, pairs_in}
 use Rattle.leaves.specs.Under.{test_of, marked, Under}
 use Rattle.leaves.proofs.Freed.{same_names}
 use Rattle.leaves.proofs.Marking.{marked_more}

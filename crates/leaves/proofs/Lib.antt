@@ -1,4 +1,4 @@
-pub mod Fronts
+pub mod Deciding
 pub mod Placed
 pub mod Changing
 pub mod Outcome

@@ -1,49 +1,27 @@
--- One out more among the outs, one copy more among the copies, and what is answered of a packet.
-use Rattle.std.proofs.Common.{◌≡◌, ℕ, ◌+◌, ◌-◌, ◌<◌, ◌≤◌, true, false, List, map, length, get_or, take, Ok, Result, sym, ap, ◌∙◌, subst, arith}
-use Rattle.std.specs.List.{insert as inserted}
-use Rattle.std.proofs.lemmas.List.{length-map, length-take, length-take-le, get_or-take, map_more, map_push}
+-- One copy more among the copies, and what is answered of a packet.
+use Rattle.std.proofs.Common.{◌≡◌, ℕ, ◌+◌, ◌-◌, ◌<◌, ◌≤◌, List, map, length, get_or, take, Ok, Result, ap, ◌∙◌, subst, arith}
+use Rattle.std.proofs.lemmas.List.{map_more, map_push}
 use Rattle.std.proofs.lemmas.Bool.{lt-ltb}
 use Rattle.std.proofs.lemmas.Bool.Decides.{when_true}
 use Rattle.octets.specs.declared.fault.Fault.{Fault}
 use Rattle.packet.specs.Packet as packets
 use Rattle.packet.specs.Packet.{once}
 use Rattle.packet.specs.Policy.{copies}
-use Rattle.packet.specs.declared.Packet.{Packet}
+use Rattle.packet.specs.declared.packets.Packet.{Packet}
 use Rattle.packet.proofs.Sets.{once_same_set}
 use Rattle.text.specs.declared.node.Node.{Node}
 use Rattle.text.specs.Trees.{trees, policy_at, meaning}
-use Rattle.meaning.specs.declared.copies.Copies.{Copies}
-use Rattle.meaning.specs.Answers.{listing, Answered, CopiesAt}
-use Rattle.meaning.specs.Listed.{fields_of}
+use Rattle.packet.specs.Copies.{listing}
+use Rattle.packet.specs.declared.copies.Copies.{Copies}
+use Rattle.meaning.specs.Answers.{Answered, CopiesAt}
+use Rattle.packet.specs.Listed.{fields_of}
 use Rattle.prescribed.specs.Order.{insert, rising, less_out}
 use Rattle.prescribed.specs.Table.{changes}
 use Rattle.prescribed.proofs.Members.{map_same}
 use Rattle.prescribed.proofs.Orders.{out_ordered}
-use Rattle.leaves.specs.declared.outs.Out.{Out}
 use Rattle.leaves.specs.declared.outs.Outs.{Outs}
-use Rattle.leaves.specs.Outs.{settings_of, outs_of, LeafOuts}
-use Rattle.leaves.specs.Place.{Place}
-use Rattle.leaves.proofs.Placed.{put_there, put_before, put_last, rising_alike, rising_push}
-
-module _ (s : Outs) (o : Out) (r : ℕ) (place : Place less_out (settings_of o) (outs_of s) r) where
-  abbrev xs : List Out
-  xs = take s.count s.outs
-
-  long : length xs ≡ s.count
-  long = length-take-le s.count s.outs (omega (arith, s.long, s.within))
-
-  module _ (d : Out) (lt : r < s.count) where
-    here : get_or xs r d ≡ get_or s.outs r d
-    here = get_or-take s.count s.outs r d lt
-
-    pub out_there : less_out (settings_of o) (settings_of (get_or s.outs r d)) ≡ false → outs_of s ≡ insert less_out (settings_of o) (outs_of s)
-    out_there h = put_there less_out out_ordered settings_of xs o r place d (omega (arith, long)) (ap (λ x. less_out (settings_of o) (settings_of x)) here ∙ h)
-
-    pub out_before : less_out (settings_of o) (settings_of (get_or s.outs r d)) ≡ true → map settings_of (inserted xs r o) ≡ insert less_out (settings_of o) (outs_of s)
-    out_before h = put_before less_out out_ordered settings_of xs o r place d (omega (arith, long)) (ap (λ x. less_out (settings_of o) (settings_of x)) here ∙ h)
-
-  pub out_last : s.count ≤ r → map settings_of (inserted xs r o) ≡ insert less_out (settings_of o) (outs_of s)
-  out_last h = put_last less_out out_ordered settings_of xs o r place (omega (arith, long))
+use Rattle.leaves.specs.Outs.{outs_of, LeafOuts}
+use Rattle.leaves.proofs.Placed.{rising_alike, rising_push}
 
 -- the outs of the first copies, and those of one copy more
 
@@ -54,17 +32,12 @@ outs_more p qs i d lt =
     ∙ ap (rising less_out) (map_push (changes 0 p) (fields_of (take i qs)) (get_or qs i d).fields)
     ∙ rising_push less_out out_ordered (map (changes 0 p) (fields_of (take i qs))) (changes 0 p (get_or qs i d).fields)
 
--- a set of copies is small
-pub few_copies : (s : Copies) (qs : List Packet) → fields_of qs ≡ listing s → length qs ≤ 16
-few_copies s qs e =
-    omega (arith, sym (length-map qs (λ q. q.fields)) ∙ ap length e ∙ length-map (take s.count s.packets) (λ q. q.fields), length-take s.count s.packets, s.within)
-
 -- the last node is what the text means
-pub last_answered : (ns : List Node) (k : ℕ) (p : packets.Packet) (r : Result Copies Fault) → 1 ≤ length ns → k ≡ length ns - 1 → CopiesAt ns k p r → Answered (meaning ns) p r
+pub last_answered : {n : ℕ} (ns : List Node) (k : ℕ) (p : packets.Packet) (r : Result (Copies n) Fault) → 1 ≤ length ns → k ≡ length ns - 1 → CopiesAt ns k p r → Answered (meaning ns) p r
 last_answered ns k p r some e h = subst (λ j. Answered (policy_at (trees ns) j) p r) e (when_true _ _ (lt-ltb k (length ns) (omega arith)) h)
 
 -- each copy once gives the same outs
-pub leaf_given : (ns : List Node) (p : packets.Packet) (s : Copies) (qs : List Packet) (o : Outs) → Answered (meaning ns) p (Ok s) →
+pub leaf_given : {n : ℕ} (ns : List Node) (p : packets.Packet) (s : Copies n) (qs : List Packet) (o : Outs) → Answered (meaning ns) p (Ok s) →
     fields_of qs ≡ listing s → outs_of o ≡ rising less_out (map (changes 0 p) (fields_of qs)) → LeafOuts (meaning ns) p (Ok o)
 leaf_given ns p s qs o h e is = (
   h.0,

@@ -1,26 +1,17 @@
 -- An element is inserted at its place, and a rising list has one more element.
-use Rattle.std.proofs.Common.{◌≡◌, ℕ, zero, suc, ◌+◌, ◌<◌, ◌≤◌, Bool, true, false, List, [], ◌∷◌, ◌++◌, map, length, get_or, take, drop, sym, refl, ap, ◌∙◌, subst, ⊎_elim, arith}
+use Rattle.std.proofs.Common.{◌≡◌, ℕ, zero, suc, ◌<◌, ◌≤◌, Bool, true, false, List, [], ◌∷◌, ◌++◌, map, length, get_or, Ordering, Less, Equal, Greater, Err, sym, refl, ap, ◌∙◌, subst, ⊎_elim, arith, add-one}
 use mathlib.Core.List.Memᴰ
-use Rattle.std.specs.List.{insert as inserted, AllByRecursion}
-use Rattle.std.proofs.ByRecursion.{All-more}
-use Rattle.std.proofs.lemmas.List.{drop_more, drop_all, take-append-drop, take-map, drop-map, map-append, length-map, get_or-map}
+use mathlib.Core.List.{Memᴰ}
+use Rattle.std.specs.Cmp.{IsTotalOrder}
+use Rattle.std.specs.List.{insert as inserted, HoldsAt}
+use Rattle.std.specs.List.Sorted.{IsSortedBy, IsBinarySearchResult}
+use Rattle.std.specs.Ordering.{is_lt, ordering_reverse}
 use Rattle.std.proofs.lemmas.Bool.{cases_Bool, both_ways, cond-true, cond-false}
+use Rattle.std.proofs.lemmas.Cmp.{tied_back}
+use Rattle.std.proofs.lemmas.List.Sorted.{searchable_from_sorted}
 use Rattle.prescribed.specs.Order.{insert, rising}
-use Rattle.prescribed.proofs.Members.{SameElements}
-use Rattle.prescribed.proofs.Rising.{Ordered, rising_same, rising_rises, rises_once}
-use Rattle.leaves.specs.Place.{Place}
-
--- the search for the place of x, which has come to place i
-module _ {A : Type 0} (less : A → A → Bool) (x : A) (ys : List A) (i : ℕ) (front : AllByRecursion (λ y. less y x ≡ true) (take i ys)) where
-  module _ (y : A) (lt : i < length ys) (is : (d : A) → get_or ys i d ≡ y) where
-    pub place_here : less y x ≡ false → Place less x ys i
-    place_here h = record { within = omega arith; front = front; stop = λ d l. ap (λ z. less z x) (is d) ∙ h }
-
-    pub place_more : less y x ≡ true → AllByRecursion (λ z. less z x ≡ true) (take (i + 1) ys)
-    place_more h = All-more (λ z. less z x ≡ true) ys i y lt front (ap (λ z. less z x) (is y) ∙ h)
-
-  pub place_end : (n : ℕ) → i ≡ n → length ys ≡ n → Place less x ys n
-  place_end n e l = record { within = omega arith; front = subst (λ k. AllByRecursion (λ y. less y x ≡ true) (take k ys)) e front; stop = λ d lt. absurd (omega arith) }
+use Rattle.prescribed.proofs.Members.{SameElements, all_member}
+use Rattle.prescribed.proofs.Rising.{Ordered, Rises, rising_same, rising_rises, rises_once}
 
 module _ {A : Type 0} (less : A → A → Bool) (order : Ordered less) where
   not_back : (x y : A) → less y x ≡ true → less x y ≡ false
@@ -39,51 +30,25 @@ module _ {A : Type 0} (less : A → A → Bool) (order : Ordered less) where
   unfolding insert
   same x y ys h k = cond-false (less x y) _ _ h ∙ cond-false (less y x) _ _ k
 
-  to_place : (x : A) (ys : List A) (r : ℕ) → r ≤ length ys → AllByRecursion (λ y. less y x ≡ true) (take r ys) → insert less x ys ≡ take r ys ++ insert less x (drop r ys)
-  to_place x ys zero le h = refl
-  to_place x [] (suc r) le h = absurd (omega arith)
-  to_place x (y ∷ ys) (suc r) le h = passed x y ys h.0 ∙ ap (λ l. y ∷ l) (to_place x ys r (omega arith) h.1)
+  -- one that is there stays
+  insert_there : (x : A) (ys : List A) → Rises less ys → Memᴰ x ys → insert less x ys ≡ ys
+  insert_there x [] h m = absurd (Memᴰ.not-nil m)
+  insert_there x (y ∷ ys) h m =
+      ⊎_elim
+      (λ e. same x y ys (ap (less x) (sym e) ∙ order.never x) (ap (λ z. less z x) (sym e) ∙ order.never x))
+      (λ n. passed x y ys (all_member (λ z. less y z ≡ true) x ys h.0 n) ∙ ap (λ l. y ∷ l) (insert_there x ys h.1 n))
+      (Memᴰ.cases_cons m)
 
-  module _ (x : A) (ys : List A) (r : ℕ) (place : Place less x ys r) where
-    placed_old : (d : A) → r < length ys → less x (get_or ys r d) ≡ false → insert less x ys ≡ ys
-    placed_old d lt h =
-        to_place x ys r place.within place.front
-        ∙ ap (λ l. take r ys ++ insert less x l) (drop_more ys r d lt)
-        ∙ ap (λ l. take r ys ++ l) (same x (get_or ys r d) (drop (r + 1) ys) h (place.stop d lt) ∙ sym (drop_more ys r d lt))
-        ∙ take-append-drop r ys
-
-    placed_new : (d : A) → r < length ys → less x (get_or ys r d) ≡ true → insert less x ys ≡ inserted ys r x
-    placed_new d lt h =
-        to_place x ys r place.within place.front
-        ∙ ap (λ l. take r ys ++ insert less x l) (drop_more ys r d lt)
-        ∙ ap (λ l. take r ys ++ l) (before x (get_or ys r d) (drop (r + 1) ys) h ∙ ap (λ l. x ∷ l) (sym (drop_more ys r d lt)))
-
-    placed_last : length ys ≤ r → insert less x ys ≡ inserted ys r x
-    unfolding insert
-    placed_last h =
-        let none = drop_all r ys h in
-        to_place x ys r place.within place.front ∙ ap (λ l. take r ys ++ insert less x l) none ∙ ap (λ l. take r ys ++ x ∷ l) (sym none)
-
-  -- the same, where the elements are seen through a function
-  module _ {X : Type 0} (f : X → A) (xs : List X) (x : X) (r : ℕ) (place : Place less (f x) (map f xs) r) where
-    map_inserted : map f (inserted xs r x) ≡ inserted (map f xs) r (f x)
-    map_inserted = map-append f (take r xs) (x ∷ drop r xs) ∙ sym (λ k. take-map f r xs k ++ f x ∷ drop-map f r xs k)
-
-    module _ (d : X) (lt : r < length xs) where
-      within : r < length (map f xs)
-      within = omega (arith, length-map xs f)
-
-      here : less (f x) (get_or (map f xs) r (f x)) ≡ less (f x) (f (get_or xs r d))
-      here = ap (less (f x)) (get_or-map f xs r d (f x) lt)
-
-      pub put_there : less (f x) (f (get_or xs r d)) ≡ false → map f xs ≡ insert less (f x) (map f xs)
-      put_there h = sym (placed_old (f x) (map f xs) r place (f x) within (here ∙ h))
-
-      pub put_before : less (f x) (f (get_or xs r d)) ≡ true → map f (inserted xs r x) ≡ insert less (f x) (map f xs)
-      put_before h = map_inserted ∙ sym (placed_new (f x) (map f xs) r place (f x) within (here ∙ h))
-
-    pub put_last : length xs ≤ r → map f (inserted xs r x) ≡ insert less (f x) (map f xs)
-    put_last h = map_inserted ∙ sym (placed_last (f x) (map f xs) r place (omega (arith, length-map xs f)))
+  -- the place between those that are less and those that are greater, where the elements are seen through a function
+  placed : {X : Type 0} (f : X → A) (ys : List X) (x : X) (i : ℕ) → i ≤ length ys → ((k : ℕ) → k < i → less (f (get_or ys k x)) (f x) ≡ true) →
+      (i < length ys → less (f x) (f (get_or ys i x)) ≡ true) → map f (inserted ys i x) ≡ insert less (f x) (map f ys)
+  unfolding insert
+  placed f [] x zero le a b = refl
+  placed f [] x (suc i) le a b = absurd (omega arith)
+  placed f (y ∷ ys) x zero le a b = sym (before (f x) (f y) (map f ys) (b (omega arith)))
+  placed f (y ∷ ys) x (suc i) le a b =
+      ap (λ l. f y ∷ l) (placed f ys x i (omega arith) (λ k l. a (suc k) (omega arith)) (λ l. b (omega arith)))
+      ∙ sym (passed (f x) (f y) (map f ys) (a zero (omega arith)))
 
   -- which elements there are decides the rising list
   pub rising_alike : (xs ys : List A) → SameElements xs ys → rising less xs ≡ rising less ys
@@ -102,3 +67,40 @@ module _ {A : Type 0} (less : A → A → Bool) (order : Ordered less) where
         λ m. ⊎_elim (λ n. Memᴰ.tail n) (λ n. Memᴰ.head (Memᴰ.eq_of_singleton n)) (Memᴰ.append_cases xs m),
         λ m. ⊎_elim (λ e. Memᴰ.append_right xs (Memᴰ.head e)) (λ n. Memᴰ.append_left (x ∷ []) n) (Memᴰ.cases_cons m),
       ))
+
+-- what a binary search finds in a rising list, by an order of which `less` is the test
+module _ {A X : Type 0} (less : A → A → Bool) (order : Ordered less) (f : X → A) (R : X → X → Ordering) (total : IsTotalOrder R) (test : (x y : X) → is_lt (R x y) ≡ less (f x) (f y)) where
+  is_less : (x y : X) → R x y ≡ Less → less (f x) (f y) ≡ true
+  is_less x y e = sym (test x y) ∙ ap is_lt e
+
+  is_more : (x y : X) → R x y ≡ Greater → less (f y) (f x) ≡ true
+  is_more x y e = is_less y x (total.antisymm y x ∙ ap ordering_reverse e)
+
+  is_same : (x y : X) → R x y ≡ Equal → f x ≡ f y
+  is_same x y e = order.total (f x) (f y) (sym (test x y) ∙ ap is_lt e) (sym (test y x) ∙ ap is_lt (tied_back total x y e))
+
+  sorted_next : (ys : List X) → Rises less (map f ys) → (k : ℕ) (d : X) → suc k < length ys → is_lt (R (get_or ys (suc k) d) (get_or ys k d)) ≡ false
+  sorted_next [] h k d lt = absurd (omega arith)
+  sorted_next (y ∷ []) h k d lt = absurd (omega arith)
+  sorted_next (y ∷ (x ∷ ys)) h zero d lt = test x y ∙ not_back less order (f x) (f y) h.0.0
+  sorted_next (y ∷ (x ∷ ys)) h (suc k) d lt = sorted_next (x ∷ ys) h.1 k d (omega arith)
+
+  sorted : (ys : List X) → Rises less (map f ys) → IsSortedBy (λ x y. is_lt (R x y)) ys
+  sorted ys h k d z lt = subst (λ j. is_lt (R (get_or ys j d) (get_or ys k d)) ≡ false) (sym (add-one k)) (sorted_next ys h k d (omega arith))
+
+  member : (ys : List X) (x : X) (i : ℕ) → i < length ys → f (get_or ys i x) ≡ f x → Memᴰ (f x) (map f ys)
+  member [] x i lt e = absurd (omega arith)
+  member (y ∷ ys) x zero lt e = Memᴰ.head (sym e)
+  member (y ∷ ys) x (suc i) lt e = Memᴰ.tail (member ys x i (omega arith) e)
+
+  module _ (ys : List X) (x : X) (os : List A) (is : map f ys ≡ rising less os) where
+    rises : Rises less (map f ys)
+    rises = subst (Rises less) (sym is) (rising_rises less order os)
+
+    pub found : (i : ℕ) → i < length ys → HoldsAt (λ y. R y x ≡ Equal) ys i → map f ys ≡ insert less (f x) (map f ys)
+    found i lt at = sym (insert_there less order (f x) (map f ys) rises (member ys x i lt (is_same (get_or ys i x) x (at x))))
+
+    pub not_found : (i : ℕ) → i ≤ length ys → IsBinarySearchResult (λ y. R y x) ys (Err i) → map f (inserted ys i x) ≡ insert less (f x) (map f ys)
+    not_found i le at =
+        let p = at (searchable_from_sorted total (λ y. y) ys x (sorted ys rises)) in
+        placed less order f ys x i le (λ k lt. is_less (get_or ys k x) x (p.0 k x (omega arith) lt)) (λ lt. is_more (get_or ys i x) x (p.1 i x (omega arith) lt))

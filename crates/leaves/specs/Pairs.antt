@@ -4,11 +4,9 @@
 --   Fits n r       r is n, or is none where n is above 65,536
 use Rattle.std.specs.Prelude.{◌≡◌, ℕ, ◌<◌, ◌≤◌, List, map, vec_items, Option, MatchOption}
 use Rattle.packet.specs.Table.{Want}
-use Rattle.leaves.specs.declared.pairs.Pair.{Pair}
+use Rattle.packet.specs.Pairs.{want_of}
+use Rattle.packet.specs.declared.pair.Pair.{Pair}
 use Rattle.leaves.specs.declared.pairs.Pairs.{Pairs}
-
-abbrev pub want_of : Pair → Want
-want_of p = record { at = p.field; value = p.value }
 
 abbrev pub wants_of : List Pair → List Want
 wants_of ps = map want_of ps

@@ -5,9 +5,8 @@
 mod marks;
 pub mod outs;
 pub mod pairs;
-mod rank;
 mod sample;
 
-pub use outs::{Out, Outs, Setting};
-pub use pairs::{Pair, Pairs};
+pub use outs::{Out, Outs};
+pub use pairs::Pairs;
 pub use sample::unnamed;

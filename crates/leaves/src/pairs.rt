@@ -2,14 +2,9 @@
 ghost use Rattle.std.specs.Prelude.{◌≤◌, vec_len};
 ghost use Rattle.std.specs.List.{AllWithin};
 
-mod calls;
+use packet::Pair;
 
-// A field and a value that it may have.
-#[derive(Clone, Copy)]
-pub struct Pair {
-    pub field: u8,
-    pub value: u16,
-}
+mod calls;
 
 // At most 512 pairs, of fields 0 to 7.
 #[derive(Drop)]

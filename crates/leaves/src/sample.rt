@@ -7,6 +7,7 @@ ghost use Rattle.leaves.specs.Under.{marked, name_of};
 
 use crate::marks::under;
 use packet::Packet;
+use std::array;
 use text::{Node, Text};
 
 // Whether the node itself tests the field f for x, or puts x there.
@@ -24,12 +25,10 @@ fn names(nodes: &[Node], row: &[bool], f: u8, x: u16) -> bool
     requires room { length nodes.now ≤ length row.now }
     ensures value { result ≡ prescribed.names f x (marked name_of row.now nodes.now) }
 {
-    for (k, n) in nodes.iter().enumerate() {
-        if row[k] && has(*n, f, x) {
-            return true;
-        }
-    }
-    false
+    nodes
+        .iter()
+        .zip(row)
+        .any(|(n, marked)| *marked && has(*n, f, x))
 }
 
 // The smallest value of the field f that no marked node names.
@@ -38,11 +37,8 @@ fn free(nodes: &[Node], row: &[bool], f: u8) -> u16
     requires room { length nodes.now ≤ length row.now }
     ensures value { result ≡ prescribed.free f (marked name_of row.now nodes.now) }
 {
-    let mut x = 0;
-    while names(nodes, row, f, x) {
-        x += 1;
-    }
-    x
+    let values = nodes.len() as u16 + 1;
+    (0..values).find(|x| !names(nodes, row, f, *x)).unwrap_or(0)
 }
 
 pub fn unnamed(text: &Text) -> Packet
@@ -50,9 +46,7 @@ pub fn unnamed(text: &Text) -> Packet
 {
     let row = under(text);
     let nodes = text.nodes();
-    let mut fields = [0; 8];
-    for f in 0..8 {
-        fields[f] = free(nodes, &row, f as u8);
+    Packet {
+        fields: array::from_fn(|f| free(nodes, &row, f as u8)),
     }
-    Packet { fields }
 }

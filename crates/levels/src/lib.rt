@@ -4,15 +4,11 @@
 ghost use Rattle.levels.specs.Laws as laws;
 
 // Leaves of a table that agree on those fields are alike.
-pub fn leaves_are_alike() -> u8
+pub fn leaves_are_alike()
     ensures alike { laws.LeavesAlike }
-{
-    0
-}
+{}
 
 // One rule stands for all leaves below where no such field is still to be asked for.
-pub fn one_rule_stands() -> u8
+pub fn one_rule_stands()
     ensures rule { laws.OneRuleBelow }
-{
-    0
-}
+{}

@@ -1,52 +1,21 @@
 -- Walking over the words of a table, rule by rule, finds where it ends.
-use Rattle.std.proofs.Common.{◌≡◌, ℕ, suc, ◌+◌, ◌-◌, ◌*◌, ◌<◌, ◌≤◌, ◌⊎◌, List, [], ◌∷◌, ◌++◌, length, get_or, take, drop, IfSome, Some, None, Option, unwrap_or, sym, refl, ap, ◌∙◌, inl, inr, arith}
+use Rattle.std.proofs.Common.{◌≡◌, ℕ, suc, ◌+◌, ◌-◌, ◌*◌, ◌<◌, ◌⊎◌, List, [], ◌∷◌, ◌++◌, length, take, Some, None, unwrap_or, sym, refl, ap, ◌∙◌, inl, inr, arith}
 use Rattle.std.specs.List.{flat_map}
-use Rattle.std.proofs.lemmas.List.{append_assoc, length-append, drop_at, take_at, take_rest}
+use Rattle.std.proofs.lemmas.List.{append_assoc, length-append, drop_at, take_at}
 use Rattle.std.proofs.lemmas.Bool.{cond-true, le-leb}
 use Rattle.packet.specs.Table.{Want, Setting, Rule, Table}
 use Rattle.prescribed.specs.Table.{trim_to, trim}
 use Rattle.table.specs.Words.{want_words, setting_words, out_words, rule_words, encode}
 use Rattle.maker.specs.End.{skip, on_rest, out_after, outs_after, counted_after, rule_after, Ended}
-use Rattle.maker.proofs.Steps.{behind, behind_is}
 use Rattle.maker.proofs.Joining.{joined_append}
 
-pub length_behind : (ws : List ℕ) → 1 ≤ length ws → length (behind ws) + 1 ≡ length ws
-length_behind [] h = absurd (omega arith)
-length_behind (w ∷ ws) h = omega (arith, ap length (behind_is w ws))
-
-pub shorter : {X : Type 0} (size : X → ℕ) (m n : ℕ) (r : Option X) → m ≤ n → IfSome r (λ x. size x ≤ m) → IfSome r (λ x. size x ≤ n)
-shorter size m n None le h = tt
-shorter size m n (Some x) le h = omega arith
-
-pub strictly : {X : Type 0} (size : X → ℕ) (m n : ℕ) (r : Option X) → m < n → IfSome r (λ x. size x ≤ m) → IfSome r (λ x. size x < n)
-strictly size m n None lt h = tt
-strictly size m n (Some x) lt h = omega arith
-
--- each step of the walk
-pub skip_at : (n : ℕ) (ws : List ℕ) → n ≤ length ws → Some (take (length ws - n) (drop n ws)) ≡ skip n ws
-skip_at n ws le = ap Some (take_rest ws n) ∙ sym (cond-true _ _ _ (le-leb n (length ws) le))
-
-pub out_at : (ws : List ℕ) (r : Option (List ℕ)) → 1 ≤ length ws → r ≡ skip (2 * get_or ws 0 0) (behind ws) → r ≡ out_after ws
-out_at [] r h e = absurd (omega arith)
-out_at (c ∷ ws) r h e = e ∙ ap (skip (2 * c)) (behind_is c ws)
-
+-- one out more
 module _ (k i : ℕ) (lt : i < k) where
   one_out : k - i ≡ suc (k - (i + 1))
   one_out = omega arith
 
-  pub outs_none : (ws : List ℕ) → None ≡ out_after ws → None ≡ outs_after (k - i) ws
-  outs_none ws e = ap (λ p. on_rest p (outs_after (k - (i + 1)))) e ∙ ap (λ m. outs_after m ws) (sym one_out)
-
   pub outs_more : (ws rest : List ℕ) → Some rest ≡ out_after ws → outs_after (k - (i + 1)) rest ≡ outs_after (k - i) ws
   outs_more ws rest e = ap (λ p. on_rest p (outs_after (k - (i + 1)))) e ∙ ap (λ m. outs_after m ws) (sym one_out)
-
-pub counted_at : (ws : List ℕ) (p : Option (List ℕ)) → 1 ≤ length ws → p ≡ outs_after (get_or ws 0 0) (behind ws) → on_rest p (λ rest. Some (get_or ws 0 0, rest)) ≡ counted_after ws
-counted_at [] p h e = absurd (omega arith)
-counted_at (k ∷ ws) p h e = ap (λ x. on_rest x (λ rest. Some (k, rest))) (e ∙ ap (outs_after k) (behind_is k ws))
-
-pub rule_at_lem : (ws : List ℕ) (p : Option (List ℕ)) → 1 ≤ length ws → p ≡ skip (2 * get_or ws 0 0) (behind ws) → on_rest p counted_after ≡ rule_after ws
-rule_at_lem [] p h e = absurd (omega arith)
-rule_at_lem (w ∷ ws) p h e = ap (λ x. on_rest x counted_after) (e ∙ ap (skip (2 * w)) (behind_is w ws))
 
 -- over the words of a rule
 skip_past : (n : ℕ) (xs ws : List ℕ) → length xs ≡ n → skip n (xs ++ ws) ≡ Some ws
@@ -74,7 +43,7 @@ rule_past_lem r ws =
     ∙ ap (λ x. on_rest x (λ rest. Some (length r.outs, rest))) (outs_past_lem r.outs ws)
 
 -- no rule is left
-pub end_none : (t : Table) (ws : List ℕ) → ws ≡ encode t → None ≡ rule_after ws → Ended t (0, 0)
+pub end_none : (t : Table) (ws : List ℕ) → ws ≡ encode t → None ≡ rule_after ws → Ended t (record { words = 0; rules = 0 })
 unfolding trim
 end_none [] ws is e = (refl, refl)
 end_none (q ∷ t) ws is e = never (e ∙ ap rule_after is ∙ rule_past_lem q (encode t))
@@ -112,7 +81,7 @@ trim_gone : (q : Rule) (u : Table) → q.outs ≡ [] → trim u ≡ [] → trim 
 unfolding trim
 trim_gone q u ho hu = ap (trim_to q) hu ∙ ap (λ o. trim_to (record { wants = q.wants; outs = o }) []) ho
 
-pub end_dropped : (t : Table) (k rules size : ℕ) (rest : List ℕ) (f : First t k rest) → k ≡ 0 → rules ≡ 0 → Ended f.others (size, rules) → Ended t (0, 0)
+pub end_dropped : (t : Table) (k rules size : ℕ) (rest : List ℕ) (f : First t k rest) → k ≡ 0 → rules ≡ 0 → Ended f.others (record { words = size; rules = rules }) → Ended t (record { words = 0; rules = 0 })
 end_dropped t k rules size rest f hk hr e =
     let outs = empty_outs f.q.outs (sym f.count ∙ hk) in
     let none = empty_table (trim f.others) (sym e.1 ∙ hr) in
@@ -129,8 +98,8 @@ trim_kept q u k rules hk hr some = by q.outs refl (trim u) refl
     by [] ho [] hu = absurd (some (hk ∙ ap length ho) (hr ∙ ap length hu))
     by (o ∷ os) ho [] hu = ap (trim_to q) hu ∙ ap (λ l. trim_to (record { wants = q.wants; outs = l }) []) ho ∙ ap (λ l. record { wants = q.wants; outs = l } ∷ []) (sym ho) ∙ ap (λ l. q ∷ l) (sym hu)
 
-pub end_kept : (t : Table) (ws rest : List ℕ) (k rules size : ℕ) (f : First t k rest) → ws ≡ encode t → (k ≡ 0 → rules ≡ 0 → ⊥) → Ended f.others (size, rules) →
-    Ended t ((length ws - length rest) + size, rules + 1)
+pub end_kept : (t : Table) (ws rest : List ℕ) (k rules size : ℕ) (f : First t k rest) → ws ≡ encode t → (k ≡ 0 → rules ≡ 0 → ⊥) → Ended f.others (record { words = size; rules = rules }) →
+    Ended t (record { words = (length ws - length rest) + size; rules = rules + 1 })
 end_kept t ws rest k rules size f is some e =
     let kept : trim t ≡ f.q ∷ trim f.others = ap trim f.whole ∙ trim_kept f.q f.others k rules f.count e.1 some in
     let long : length ws ≡ length (rule_words f.q) + length rest

@@ -1,5 +1,5 @@
 -- What is left in the lent words: a table and zeros, which a switch reads as the table.
-use Rattle.std.proofs.Common.{◌≡◌, ℕ, ◌-◌, ◌*◌, ◌<◌, ◌≤◌, List, [], ◌++◌, length, take, drop, replicate, Ok, sym, ap, ◌∙◌, subst, arith, length-drop, length-take}
+use Rattle.std.proofs.Common.{◌≡◌, ℕ, ◌-◌, ◌*◌, ◌<◌, ◌≤◌, List, [], ◌++◌, length, take, drop, replicate, Some, None, Option, Ok, Err, Result, MatchResult, sym, ap, ◌∙◌, subst, arith, length-drop, length-take}
 use lib.Seq.{drop-length, take-append_seam}
 use borrow.Rule.Slice.PartMut.{put_mid}
 use Rattle.std.proofs.lemmas.List.{append-nil}
@@ -13,9 +13,14 @@ use Rattle.prescribed.proofs.Right.{always_right}
 use Rattle.table.specs.Words.{encode, Sound, rules_of}
 use Rattle.table.specs.Good.{Good}
 use Rattle.table.proofs.Encoding.{reads_back}
-use Rattle.leaves.specs.Pairs.{pairs_in}
+use Rattle.std.specs.Option.{option_map_or}
+use Rattle.leaves.specs.Pairs.{pairs_in, Fits}
+use Rattle.octets.specs.declared.fault.Fault.{Fault}
 use Rattle.maker.specs.declared.maker.Maker.{Maker}
-use Rattle.maker.specs.Makers.{policy_of, room, Handed}
+use Rattle.maker.specs.declared.maker.NoTable.{NoTable}
+use Rattle.maker.specs.declared.maker.NoTable.TheVariants.{Refused}
+use Rattle.maker.specs.Whole.{Put}
+use Rattle.maker.specs.Makers.{policy_of, room, Makes, Handed}
 
 -- what a maker holds is its text's
 pub held : (m : Maker) → pairs_in m.pairs ≡ pairs_of (policy_of m)
@@ -32,6 +37,10 @@ module _ (m : Maker) where
 
   pub no_table : 65536 < product (pairs_in m.pairs) → fault_of (policy_of m) ≡ 5
   no_table lt = cond-true _ _ _ (lt-ltb 65536 (product (pairs_of (policy_of m))) (omega (arith, ap product (held m), lt)))
+
+  pub room_by : (r : Option ℕ) → Fits (product (pairs_in m.pairs)) r → option_map_or (λ n. 290 * n) r 0 ≡ room (policy_of m)
+  room_by (Some n) h = ap (λ k. 290 * k) h.0 ∙ sym (has_room h.1)
+  room_by None h = sym (no_room h)
 
 -- a table that is the first n words, and zeros behind it
 pub cleared : (n lent : ℕ) (ws zeros table : List ℕ) → n ≤ length ws → length ws ≡ lent → take n ws ≡ table →
@@ -50,3 +59,13 @@ handed a n after zeros good size is =
     let read = reads_back (table_of a) good in
     let rules : rules_of (take n after) ≡ table_of a = ap rules_of front ∙ read.1 in
     (subst Sound (sym front) read.0, rules, subst (Right a) (sym rules) (always_right a))
+
+-- what is made of the words that were put
+module _ (a : Policy) (lent : ℕ) (after : List ℕ) where
+  pub made_by : (r : Result ℕ Fault) (s : Result ℕ NoTable) → room a ≤ lent → Put a lent after r → MatchResult r (λ n. s ≡ Ok n) (λ e. s ≡ Err (Refused e)) → Makes a lent after s
+  made_by (Ok n) s le h e = rw e (le, h.0, h.1, h.2)
+  made_by (Err f) s le h e = rw e (le, h.0, h.1, h.2)
+
+  pub handed_by : (r : Result ℕ Fault) (s : Result ℕ NoTable) → Put a lent after r → MatchResult r (λ n. s ≡ Ok n) (λ e. s ≡ Err (Refused e)) → Handed a after s
+  handed_by (Ok n) s h e = rw e (handed a n after _ h.3 h.1 h.2)
+  handed_by (Err f) s h e = rw e tt

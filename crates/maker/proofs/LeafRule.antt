@@ -1,7 +1,7 @@
 -- The rule of a leaf, in words and within the limits.
-use Rattle.std.proofs.Common.{◌≡◌, ℕ, suc, ◌+◌, ◌≤◌, true, false, eqb, List, [], ◌∷◌, map, length, take, Ok, sym, refl, ap, ◌∙◌, arith}
+use Rattle.std.proofs.Common.{◌≡◌, ℕ, suc, ◌+◌, ◌≤◌, true, false, eqb, List, [], ◌∷◌, map, length, take, Some, Ok, sym, refl, ap, ◌∙◌, arith}
 use Rattle.std.specs.List.{AllByRecursion}
-use Rattle.std.proofs.lemmas.List.{append-nil, length-map, length-take}
+use Rattle.std.proofs.lemmas.List.{append-nil}
 use Rattle.std.proofs.lemmas.Bool.{cond_both}
 use Rattle.packet.specs.Packet.{Packet}
 use Rattle.packet.specs.Policy.{Policy, copies, overfull}
@@ -13,15 +13,11 @@ use Rattle.prescribed.proofs.Rising.{rising_all}
 use Rattle.prescribed.proofs.Sample.{length_sample}
 use Rattle.table.specs.Good.{Each, GoodWant, GoodOut}
 use Rattle.table.specs.Words.{rule_words, encode}
-use Rattle.maker.specs.declared.made.Made.TheVariants.{Rules}
 use Rattle.maker.specs.Making.{MadeOf}
 
 each_from : {A : Type 0} (P : A → Type 0) (xs : List A) → AllByRecursion P xs → Each P xs
 each_from P [] h = tt
 each_from P (x ∷ xs) h = (h.0, each_from P xs h.1)
-
-pub few_mapped : {A B : Type 0} (f : A → B) (n : ℕ) (xs : List A) → length (map f (take n xs)) ≤ n
-few_mapped f n xs = omega (arith, length-map (take n xs) f, length-take n xs)
 
 -- changes are of fields from f on, one for each at most
 few_changes : (f : ℕ) (xs ys : Packet) → length (changes f xs ys) ≤ length xs
@@ -52,7 +48,7 @@ all_changes p (q ∷ qs) eight = (good_changes p q eight, all_changes p qs eight
 module _ (a : Policy) (known : List Want) (p : Packet) (is : p ≡ sample a known) where
   pub leaf_made : (outs : List (List Setting)) (words : List ℕ) (n : ℕ) → overfull a p ≡ false → outs ≡ rising less_out (map (changes 0 p) (copies a p)) →
       length known ≤ 8 → Each GoodWant known → length outs ≤ 16 → take n words ≡ rule_words (record { wants = known; outs = outs }) → n ≤ 290 →
-      MadeOf a [] known words (Ok (Rules n 1))
+      MadeOf a [] known words (Ok (Some (record { words = n; rules = 1 })))
   unfolding crowded long leaves table_from
   leaf_made outs words n clear made wants low few front size =
       let leafed : outs ≡ rising less_out (map (changes 0 (sample a known)) (copies a (sample a known)))

@@ -1,10 +1,30 @@
--- Things written one after the other behind their number.
-use Rattle.std.proofs.Common.{◌≡◌, ℕ, ◌≤◌, List, [], ◌∷◌, ◌++◌, length, take, ap, ◌∙◌, append_assoc}
+-- The words of pairs are those of wants and of settings.
+use Rattle.std.proofs.Common.{◌≡◌, ◌+◌, ◌*◌, List, [], ◌∷◌, map, length, sym, refl, ap, arith}
 use Rattle.std.specs.List.{flat_map}
-use Rattle.octets.proofs.Appends.{appended_all}
+use Rattle.std.proofs.lemmas.List.{length-map}
+use Rattle.packet.specs.declared.pair.Pair.{Pair}
+use Rattle.packet.specs.Pairs.{want_of, setting_of}
+use Rattle.table.specs.Words.{want_words, wants_words, setting_words, out_words}
+use Rattle.leaves.specs.Pairs.{wants_of}
+use Rattle.maker.specs.Leaves.{pair_words, pairs_words}
 
--- all are written: before are the words in front of the number, start those with it
-pub row_written : {X : Type 0} (f : X → List ℕ) (xs : List X) (before start after : List ℕ) (count i : ℕ) → length xs ≤ i → count ≡ length xs →
-    start ≡ before ++ count ∷ [] → after ≡ start ++ flat_map f (take i xs) → after ≡ before ++ (length xs ∷ flat_map f xs)
-row_written f xs before start after count i le is first was =
-    appended_all f start xs after i le was ∙ ap (λ l. l ++ flat_map f xs) (first ∙ ap (λ n. before ++ n ∷ []) is) ∙ append_assoc before (length xs ∷ []) (flat_map f xs)
+wants_flat : (ps : List Pair) → flat_map pair_words ps ≡ flat_map want_words (wants_of ps)
+wants_flat [] = refl
+wants_flat (p ∷ ps) = ap (λ l. p.field ∷ (p.value ∷ l)) (wants_flat ps)
+
+settings_flat : (ps : List Pair) → flat_map pair_words ps ≡ flat_map setting_words (map setting_of ps)
+settings_flat [] = refl
+settings_flat (p ∷ ps) = ap (λ l. p.field ∷ (p.value ∷ l)) (settings_flat ps)
+
+pub as_wants : (ps : List Pair) → pairs_words ps ≡ wants_words (wants_of ps)
+as_wants ps = λ i. sym (length-map ps want_of) i ∷ wants_flat ps i
+
+pub as_out : (ps : List Pair) → pairs_words ps ≡ out_words (map setting_of ps)
+as_out ps = λ i. sym (length-map ps setting_of) i ∷ settings_flat ps i
+
+flat_long : (ps : List Pair) → length (flat_map pair_words ps) ≡ 2 * length ps
+flat_long [] = refl
+flat_long (p ∷ ps) = omega (arith, flat_long ps)
+
+pub pairs_long : (ps : List Pair) → length (pairs_words ps) ≡ 2 * length ps + 1
+pairs_long ps = omega (arith, flat_long ps)

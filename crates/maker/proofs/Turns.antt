@@ -1,7 +1,7 @@
 -- From one pair to the next: what the recursion is given, and what it gives back.
-use Rattle.std.proofs.Common.{◌≡◌, ℕ, ◌+◌, ◌-◌, ◌*◌, ◌<◌, ◌≤◌, true, false, List, [], ◌∷◌, ◌++◌, length, take, drop, Ok, Err, Result, sym, refl, ap, ◌∙◌, subst, arith}
+use Rattle.std.proofs.Common.{◌≡◌, ℕ, ◌+◌, ◌-◌, ◌*◌, ◌<◌, ◌≤◌, true, false, List, [], ◌∷◌, ◌++◌, length, take, drop, Some, None, Ok, Err, Result, sym, refl, ap, ◌∙◌, subst, arith}
 use borrow.Rule.Slice.PartMut.{put_mid}
-use Rattle.std.proofs.lemmas.List.{take_at, drop_at, length-take-le, take-append-le, length-append, length-drop}
+use Rattle.std.proofs.lemmas.List.{length_push, take_at, drop_at, length-take-le, take-append-le, length-append, length-drop}
 use Rattle.std.proofs.lemmas.Bool.{eq-eqb, both_ways, or_right, or_left}
 use Rattle.octets.specs.declared.fault.Fault.{Fault}
 use Rattle.packet.specs.Packet.{put}
@@ -10,13 +10,13 @@ use Rattle.packet.specs.Table.{Want}
 use Rattle.prescribed.specs.Table.{is_known, sample, unnamed, table_from}
 use Rattle.prescribed.specs.Fit.{leaves}
 use Rattle.prescribed.proofs.Asks.{is_known_append}
-use Rattle.maker.specs.declared.made.Made.{Made}
-use Rattle.maker.specs.declared.made.Made.TheVariants.{Rules, Over}
-use Rattle.leaves.specs.declared.pairs.Pair.{Pair}
+use Rattle.maker.specs.declared.size.Size.{Size}
+use Rattle.packet.specs.declared.pair.Pair.{Pair}
+use Rattle.packet.specs.Pairs.{want_of}
 use Rattle.maker.specs.declared.known.Known.{Known}
-use Rattle.leaves.specs.Pairs.{want_of, wants_of}
+use Rattle.leaves.specs.Pairs.{wants_of}
 use Rattle.maker.specs.Knowing.{known_of}
-use Rattle.maker.specs.Making.{JoinedAs, rule_room, MadeOf}
+use Rattle.maker.specs.Making.{Made, JoinedAs, rule_room, MadeOf}
 use Rattle.maker.specs.Tasks.{pair_at, field_at, Task}
 use Rattle.table.specs.Good.{Each, GoodWant}
 use Rattle.prescribed.proofs.Sample.{knowing_push}
@@ -60,21 +60,19 @@ module _ (a : Policy) (ps : List Pair) (i : ℕ) (k : Known) (words : ℕ) (task
 
   -- it is not
   module _ (new : is_known (field_at ps i) (known_of k) ≡ false) where
-    pub room_for_one : k.count < 8
-    room_for_one = omega (arith, task.count.fewer lt new, task.order.low i)
-
     pub room_for_both : rule_room * leaves (wants_of (drop (i + 1) ps)) (known_of k ++ want_of (pair_at ps i) ∷ []) + rule_room * leaves (wants_of (drop (i + 1) ps)) (known_of k) ≤ words
     room_for_both = omega (arith, task.room, ap (λ l. leaves l (known_of k)) first, leaves_new a (want_of (pair_at ps i)) (wants_of (drop (i + 1) ps)) (known_of k) new)
 
     pub task_yes : (with : Known) → known_of with ≡ known_of k ++ want_of (pair_at ps i) ∷ [] →
-        with.sample.fields ≡ put (field_at ps i) (pair_at ps i).value k.sample.fields → with.count ≡ k.count + 1 → Task a ps (i + 1) with words
-    task_yes with known sampled count = record {
+        with.sample.fields ≡ put (field_at ps i) (pair_at ps i).value k.sample.fields → Task a ps (i + 1) with words
+    task_yes with known sampled = record {
       order = task.order;
       count = record {
-        most = λ h. omega (arith, count, task.count.fewer lt new, rise h);
+        most = λ h. omega (arith, ap length known, length_push (known_of k) (want_of (pair_at ps i)), task.count.fewer lt new, rise h);
         fewer = λ h lacks. omega (
           arith,
-          count,
+          ap length known,
+          length_push (known_of k) (want_of (pair_at ps i)),
           task.count.fewer lt new,
           apart (known_of with) (field_at ps i) (field_at ps (i + 1)) (ap (is_known (field_at ps i)) known ∙ known_pushed (known_of k) _ (field_at ps i) refl) lacks (rise h),
         );
@@ -108,9 +106,9 @@ module _ (a : Policy) (ps : List Pair) (i : ℕ) (k : Known) (words : ℕ) (task
       back out r h = subst (λ l. MadeOf a l (known_of k) out r) (sym first) h
 
       -- N has room behind Y
-      pub fits_behind : (out : List ℕ) (r s : ℕ) → MadeOf a (wants_of (drop (i + 1) ps)) (known_of with) out (Ok (Rules r s)) →
-          r + rule_room * leaves (wants_of (drop (i + 1) ps)) (known_of k) ≤ words
-      fits_behind out r s h = omega (arith, h.2, room_for_both, ap (leaves (wants_of (drop (i + 1) ps))) known)
+      pub fits_behind : (out : List ℕ) (y : Size) → MadeOf a (wants_of (drop (i + 1) ps)) (known_of with) out (Ok (Some y)) →
+          y.words + rule_room * leaves (wants_of (drop (i + 1) ps)) (known_of k) ≤ words
+      fits_behind out y h = omega (arith, h.2, room_for_both, ap (leaves (wants_of (drop (i + 1) ps))) known)
 
       pub turn_crowded_y : (out after : List ℕ) (e : Fault) → MadeOf a (wants_of (drop (i + 1) ps)) (known_of with) out (Err e) → MadeOf a (wants_of (drop i ps)) (known_of k) after (Err e)
       turn_crowded_y out after e h = back after (Err e) (made_crowded_y a _ _ (known_of k) new out after e (in_y out (Err e) h))
@@ -118,22 +116,22 @@ module _ (a : Policy) (ps : List Pair) (i : ℕ) (k : Known) (words : ℕ) (task
       pub turn_crowded_n : (out after : List ℕ) (e : Fault) → MadeOf a (wants_of (drop (i + 1) ps)) (known_of k) out (Err e) → MadeOf a (wants_of (drop i ps)) (known_of k) after (Err e)
       turn_crowded_n out after e h = back after (Err e) (made_crowded_n a _ _ (known_of k) new out after e h)
 
-      pub turn_over_y : (out others after : List ℕ) (m : Made) → MadeOf a (wants_of (drop (i + 1) ps)) (known_of with) out (Ok Over) →
-          MadeOf a (wants_of (drop (i + 1) ps)) (known_of k) others (Ok m) → MadeOf a (wants_of (drop i ps)) (known_of k) after (Ok Over)
-      turn_over_y out others after m h g = back after (Ok Over) (made_over_y a _ _ (known_of k) new out others after m (in_y out (Ok Over) h) g)
+      pub turn_over_y : (out others after : List ℕ) (m : Made) → MadeOf a (wants_of (drop (i + 1) ps)) (known_of with) out (Ok None) →
+          MadeOf a (wants_of (drop (i + 1) ps)) (known_of k) others (Ok m) → MadeOf a (wants_of (drop i ps)) (known_of k) after (Ok None)
+      turn_over_y out others after m h g = back after (Ok None) (made_over_y a _ _ (known_of k) new out others after m (in_y out (Ok None) h) g)
 
-      pub turn_over_n : (out others after : List ℕ) (r s : ℕ) → MadeOf a (wants_of (drop (i + 1) ps)) (known_of with) out (Ok (Rules r s)) →
-          MadeOf a (wants_of (drop (i + 1) ps)) (known_of k) others (Ok Over) → MadeOf a (wants_of (drop i ps)) (known_of k) after (Ok Over)
-      turn_over_n out others after r s h g = back after (Ok Over) (made_over_n a _ _ (known_of k) new out others after r s (in_y out (Ok (Rules r s)) h) g)
+      pub turn_over_n : (out others after : List ℕ) (y : Size) → MadeOf a (wants_of (drop (i + 1) ps)) (known_of with) out (Ok (Some y)) →
+          MadeOf a (wants_of (drop (i + 1) ps)) (known_of k) others (Ok None) → MadeOf a (wants_of (drop i ps)) (known_of k) after (Ok None)
+      turn_over_n out others after y h g = back after (Ok None) (made_over_n a _ _ (known_of k) new out others after y (in_y out (Ok (Some y)) h) g)
 
-      pub turn_joined : (out others after : List ℕ) (r s p q : ℕ) (m : Made) → MadeOf a (wants_of (drop (i + 1) ps)) (known_of with) out (Ok (Rules r s)) →
-          MadeOf a (wants_of (drop (i + 1) ps)) (known_of k) others (Ok (Rules p q)) →
-          JoinedAs (field_at ps i) (table_from a (wants_of (drop (i + 1) ps)) (known_of with)) (table_from a (wants_of (drop (i + 1) ps)) (known_of k)) (r + p) after m →
+      pub turn_joined : (out others after : List ℕ) (y n : Size) (m : Made) → MadeOf a (wants_of (drop (i + 1) ps)) (known_of with) out (Ok (Some y)) →
+          MadeOf a (wants_of (drop (i + 1) ps)) (known_of k) others (Ok (Some n)) →
+          JoinedAs (field_at ps i) (table_from a (wants_of (drop (i + 1) ps)) (known_of with)) (table_from a (wants_of (drop (i + 1) ps)) (known_of k)) (y.words + n.words) after m →
           MadeOf a (wants_of (drop i ps)) (known_of k) after (Ok m)
-      turn_joined out others after r s p q m h g j =
+      turn_joined out others after y n m h g j =
           back after (Ok m)
-          (made_joined a _ _ (known_of k) new out others after r s p q m (in_y out (Ok (Rules r s)) h) g
-          (subst (λ l. JoinedAs (field_at ps i) (table_from a (wants_of (drop (i + 1) ps)) l) (table_from a (wants_of (drop (i + 1) ps)) (known_of k)) (r + p) after m) known j))
+          (made_joined a _ _ (known_of k) new out others after y n m (in_y out (Ok (Some y)) h) g
+          (subst (λ l. JoinedAs (field_at ps i) (table_from a (wants_of (drop (i + 1) ps)) l) (table_from a (wants_of (drop (i + 1) ps)) (known_of k)) (y.words + n.words) after m) known j))
 
 -- the words after N was written behind Y, which is e words long: back is the part behind
 module _ (e m : ℕ) (ws back : List ℕ) (le : e ≤ length ws) (inside : m ≤ length back) where

@@ -1,5 +1,5 @@
 -- From the recursion to a whole text: where it begins, and what its answer says of the text.
-use Rattle.std.proofs.Common.{◌≡◌, ℕ, zero, suc, ◌+◌, ◌*◌, ◌<◌, ◌≤◌, true, cond, ◌||◌, eqb, ltb, List, [], ◌∷◌, ◌++◌, length, take, drop, Ok, Err, sym, ap, ◌∙◌, subst, ⊎_elim, arith}
+use Rattle.std.proofs.Common.{◌≡◌, ℕ, zero, suc, ◌+◌, ◌*◌, ◌<◌, ◌≤◌, true, cond, ◌||◌, eqb, ltb, List, [], ◌∷◌, ◌++◌, length, take, drop, Some, None, Ok, Err, sym, ap, ◌∙◌, subst, ⊎_elim, arith}
 use Rattle.std.specs.List.{AllWithin, AllByRecursion}
 use Rattle.std.proofs.lemmas.List.{take-take, get_or_past}
 use Rattle.std.proofs.lemmas.Bool.{cond-true, cond-false, or_left, or_right, or_from, or_cases, and_parts, ltb-true, eqb-true, le-ltb, lt-ltb, cases_lt}
@@ -15,10 +15,11 @@ use Rattle.prescribed.proofs.Orders.{pairs_rise}
 use Rattle.prescribed.proofs.Sizes.{leaves_product}
 use Rattle.table.specs.Good.{Each, GoodWant, GoodRule}
 use Rattle.table.specs.Words.{encode}
-use Rattle.leaves.specs.declared.pairs.Pair.{Pair}
-use Rattle.leaves.specs.Pairs.{want_of, wants_of}
+use Rattle.packet.specs.declared.pair.Pair.{Pair}
+use Rattle.packet.specs.Pairs.{want_of}
+use Rattle.leaves.specs.Pairs.{wants_of}
 use Rattle.maker.specs.declared.known.Known.{Known}
-use Rattle.maker.specs.declared.made.Made.TheVariants.{Rules, Over}
+use Rattle.maker.specs.declared.size.Size.{Size}
 use Rattle.maker.specs.Knowing.{known_of}
 use Rattle.maker.specs.Making.{rule_room, MadeOf}
 use Rattle.maker.specs.Tasks.{field_at, Task}
@@ -56,11 +57,11 @@ fields_rise (p ∷ (q ∷ ps)) h (suc j) lt =
 
 module _ (a : Policy) (ps : List Pair) (pairs : wants_of ps ≡ pairs_of a) (k : Known) (none : known_of k ≡ []) where
   -- where the recursion begins
-  pub first_task : AllWithin (λ p. p.field ≤ 7) ps 0 (length ps) → k.sample.fields ≡ unnamed a → k.count ≡ 0 → (words : ℕ) → rule_room * product (wants_of ps) ≤ words → Task a ps 0 k words
+  pub first_task : AllWithin (λ p. p.field ≤ 7) ps 0 (length ps) → k.sample.fields ≡ unnamed a → (words : ℕ) → rule_room * product (wants_of ps) ≤ words → Task a ps 0 k words
   unfolding knowing
-  first_task low sampled count words room = record {
+  first_task low sampled words room = record {
     order = record { low = field_low ps low; rise = fields_rise ps (subst (Rises less_want) (sym pairs) (pairs_rise a)) };
-    count = record { most = λ lt. omega arith; fewer = λ lt lacks. omega arith };
+    count = record { most = λ lt. omega (arith, ap length none); fewer = λ lt lacks. omega (arith, ap length none) };
     low = subst (Each GoodWant) (sym none) tt;
     sample = sampled ∙ ap (λ l. knowing l (unnamed a)) (sym none);
     room = omega (arith, room, ap (λ l. leaves (wants_of ps) l) none, leaves_product (wants_of ps) (all_low ps low));
@@ -79,37 +80,37 @@ module _ (a : Policy) (ps : List Pair) (pairs : wants_of ps ≡ pairs_of a) (k :
         let six : fault_of a ≡ 6 = fits_five ∙ cond-true _ _ _ m.0 in
         (ap number m.1 ∙ sym six, omega (arith, six))
 
-    pub whole_over : (words : List ℕ) → MadeOf a (wants_of (drop 0 ps)) (known_of k) words (Ok Over) → (7 ≡ fault_of a) × (0 < fault_of a)
+    pub whole_over : (words : List ℕ) → MadeOf a (wants_of (drop 0 ps)) (known_of k) words (Ok None) → (7 ≡ fault_of a) × (0 < fault_of a)
     whole_over words h =
-        let m = at_start words (Ok Over) h in
+        let m = at_start words (Ok None) h in
         let seven : fault_of a ≡ 7 = fits_five ∙ cond-false _ _ _ m.0 ∙ cond-true _ _ _ (or_left _ _ m.1) in
         (sym seven, omega (arith, seven))
 
     -- the table was made: what is left of it when its end was found
-    module _ (words : List ℕ) (n m : ℕ) (made : MadeOf a (wants_of (drop 0 ps)) (known_of k) words (Ok (Rules n m))) where
-      pub whole_within : AllWithin (λ p. p.field ≤ 7) ps 0 (length ps) → n ≤ rule_room * product (wants_of ps)
+    module _ (words : List ℕ) (z : Size) (made : MadeOf a (wants_of (drop 0 ps)) (known_of k) words (Ok (Some z))) where
+      pub whole_within : AllWithin (λ p. p.field ≤ 7) ps 0 (length ps) → z.words ≤ rule_room * product (wants_of ps)
       whole_within low = omega (arith, made.2, ap (λ l. leaves (wants_of ps) l) none, leaves_product (wants_of ps) (all_low ps low))
 
-      pub whole_front : take n words ≡ encode (whole_table a)
-      whole_front = (at_start words (Ok (Rules n m)) made).3.front
+      pub whole_front : take z.words words ≡ encode (whole_table a)
+      whole_front = (at_start words (Ok (Some z)) made).3.front
 
-      pub whole_many : (size rules : ℕ) → Ended (whole_table a) (size, rules) → 2048 < rules → (7 ≡ fault_of a) × (0 < fault_of a)
-      whole_many size rules ended over =
-          let h = at_start words (Ok (Rules n m)) made in
+      pub whole_many : (left : Size) → Ended (whole_table a) left → 2048 < left.rules → (7 ≡ fault_of a) × (0 < fault_of a)
+      whole_many left ended over =
+          let h = at_start words (Ok (Some z)) made in
           let seven : fault_of a ≡ 7
           = fits_five ∙ cond-false _ _ _ h.0 ∙ cond-true _ _ _ (or_right (long a (pairs_of a) []) _ (lt-ltb 2048 (length (table_of a)) (omega (arith, over, ended.1)))) in
           (sym seven, omega (arith, seven))
 
-      pub whole_table_lem : (size rules : ℕ) → Ended (whole_table a) (size, rules) → rules ≤ 2048 → size ≤ n → n ≤ length words → whole.Table a words size
-      whole_table_lem size rules ended few inside within =
-          let h = at_start words (Ok (Rules n m)) made in
+      pub whole_table_lem : (left : Size) → Ended (whole_table a) left → left.rules ≤ 2048 → left.words ≤ z.words → z.words ≤ length words → whole.Table a words left.words
+      whole_table_lem left ended few inside within =
+          let h = at_start words (Ok (Some z)) made in
           let p = trim_part (whole_table a) in
           record {
             fits =
                 fits_five ∙ cond-false _ _ _ h.0
                 ∙ cond-false _ _ _ (or_from _ _ h.1 (le-ltb 2048 (length (table_of a)) (omega (arith, few, ended.1))));
             front =
-                sym (take-take size n words inside) ∙ ap (take size) whole_front ∙ ap (λ s. take s (encode (whole_table a))) ended.0 ∙ trim_front (whole_table a);
+                sym (take-take left.words z.words words inside) ∙ ap (take left.words) whole_front ∙ ap (λ s. take s (encode (whole_table a))) ended.0 ∙ trim_front (whole_table a);
             size = ended.0;
             within = omega (arith, inside, within);
             good = record { few = omega (arith, few, ended.1); rules = each_front (trim (whole_table a)) p.0 (subst (Each GoodRule) p.1 h.3.good) };

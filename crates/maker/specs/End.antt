@@ -4,6 +4,7 @@ use Rattle.std.specs.Borrow.{Bor}
 use Rattle.packet.specs.Table.{Table}
 use Rattle.prescribed.specs.Table.{trim}
 use Rattle.table.specs.Words.{encode}
+use Rattle.maker.specs.declared.size.Size.{Size}
 
 -- the words behind the first n, if there are so many
 abbrev pub skip : ℕ → List ℕ → Option (List ℕ)
@@ -41,5 +42,5 @@ after_of None = None
 after_of (Some p) = Some (p.0, p.1.now)
 
 -- so many words and rules are left of a table when the rules behind the last one with outs are left out
-abbrev pub Ended : Table → ℕ × ℕ → Type 0
-Ended t r = (r.0 ≡ length (encode (trim t))) × (r.1 ≡ length (trim t))
+abbrev pub Ended : Table → Size → Type 0
+Ended t z = (z.words ≡ length (encode (trim t))) × (z.rules ≡ length (trim t))

@@ -1,6 +1,7 @@
 pub mod Compare
 pub mod Pasts
 pub mod Knowing
+pub mod Leaves
 pub mod Making
 pub mod Tasks
 pub mod End

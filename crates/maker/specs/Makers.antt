@@ -1,9 +1,12 @@
 -- What a maker leaves in the words that it is lent.
 --   policy_of m     what the maker's text means
 --   room a         how many words always suffice for the table of a
+--   fault_by e     the fault that a refusal is told as
 --   Makes a ..     what is answered and what is left, lent so many words
 use Rattle.std.specs.Prelude.{◌≡◌, ℕ, ◌-◌, ◌*◌, ◌<◌, ◌≤◌, cond, List, ◌++◌, length, take, replicate, Ok, Err, Result, nat_lt}
 use Rattle.octets.specs.Faults.{number}
+use Rattle.octets.specs.declared.fault.Fault.{Fault}
+use Rattle.octets.specs.declared.fault.Fault.TheVariants as faults
 use Rattle.packet.specs.Policy.{Policy}
 use Rattle.packet.specs.Table.{Right}
 use Rattle.text.specs.Texts.{nodes_of}
@@ -23,6 +26,10 @@ policy_of m = meaning (nodes_of (text_of m.evaluator))
 -- none, where the product is too large for a table
 abbrev pub room : Policy → ℕ
 room a = cond (nat_lt 65536 (product (pairs_of a))) 0 (rule_room * product (pairs_of a))
+
+abbrev pub fault_by : NoTable → Fault
+fault_by (Refused f) = f
+fault_by Short = faults.Memory
 
 -- a table's words and then zeros; after a refusal zeros alone
 abbrev pub Makes : Policy → ℕ → List ℕ → Result ℕ NoTable → Type 0

@@ -4,7 +4,7 @@ use Rattle.packet.specs.Policy.{Policy}
 use Rattle.prescribed.specs.Table.{is_known, sample}
 use Rattle.prescribed.specs.Fit.{leaves}
 use Rattle.table.specs.Good.{Each, GoodWant}
-use Rattle.leaves.specs.declared.pairs.Pair.{Pair}
+use Rattle.packet.specs.declared.pair.Pair.{Pair}
 use Rattle.maker.specs.declared.known.Known.{Known}
 use Rattle.leaves.specs.Pairs.{wants_of}
 use Rattle.maker.specs.Knowing.{known_of}
@@ -24,8 +24,8 @@ pub record Ordered (ps : List Pair) : Type 0 where
 
 -- so no more fields are known than lie before the next pair's, that one included if it is known
 pub record Counted (ps : List Pair) (i : ℕ) (k : Known) : Type 0 where
-  pub most : i < length ps → k.count ≤ field_at ps i + 1
-  pub fewer : i < length ps → is_known (field_at ps i) (known_of k) ≡ false → k.count ≤ field_at ps i
+  pub most : i < length ps → length (known_of k) ≤ field_at ps i + 1
+  pub fewer : i < length ps → is_known (field_at ps i) (known_of k) ≡ false → length (known_of k) ≤ field_at ps i
 
 -- the pairs from i on, where k is known, for the policy a, with room for so many words
 pub record Task (a : Policy) (ps : List Pair) (i : ℕ) (k : Known) (words : ℕ) : Type 0 where

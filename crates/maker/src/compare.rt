@@ -7,20 +7,10 @@ ghost use Rattle.maker.specs.Pasts.{past_of, next_of};
 fn words_past<'a>(count: usize, ys: &'a [u16], ns: &'a [u16]) -> Option<(&'a [u16], &'a [u16])>
     ensures value { past_of result ≡ spec.words_past count ys.now ns.now }
 {
-    let mut ys = ys;
-    let mut ns = ns;
-    for _i in 0..count {
-        let [a, more @ ..] = ys else {
-            return None;
-        };
-        let [b, rest @ ..] = ns else {
-            return None;
-        };
-        if *a != *b {
-            return None;
-        }
-        ys = more;
-        ns = rest;
+    let (front, ys) = ys.split_at_checked(count)?;
+    let (same, ns) = ns.split_at_checked(count)?;
+    if front != same {
+        return None;
     }
     Some((ys, ns))
 }
@@ -61,9 +51,7 @@ fn wants_past<'a>(
         let [g, x, more @ ..] = ys else {
             return None;
         };
-        let Some((less, rest)) = want_next(f, *g, *x, v, ns) else {
-            return None;
-        };
+        let (less, rest) = want_next(f, *g, *x, v, ns)?;
         v = less;
         ys = more;
         ns = rest;
@@ -75,10 +63,8 @@ fn wants_past<'a>(
 fn out_past<'a>(ys: &'a [u16], ns: &'a [u16]) -> Option<(&'a [u16], &'a [u16])>
     ensures value { past_of result ≡ spec.out_past ys.now ns.now }
 {
-    if ys.is_empty() {
-        return None;
-    }
-    words_past(1 + 2 * ys[0] as usize, ys, ns)
+    let count = *ys.first()?;
+    words_past(1 + 2 * usize::from(count), ys, ns)
 }
 
 // The same of `count` outs.
@@ -88,9 +74,7 @@ fn outs_past<'a>(count: u16, ys: &'a [u16], ns: &'a [u16]) -> Option<(&'a [u16],
     let mut ys = ys;
     let mut ns = ns;
     for _i in 0..count {
-        let Some((more, rest)) = out_past(ys, ns) else {
-            return None;
-        };
+        let (more, rest) = out_past(ys, ns)?;
         ys = more;
         ns = rest;
     }
@@ -101,36 +85,26 @@ fn outs_past<'a>(count: u16, ys: &'a [u16], ns: &'a [u16]) -> Option<(&'a [u16],
 fn all_outs_past<'a>(ys: &'a [u16], ns: &'a [u16]) -> Option<(&'a [u16], &'a [u16])>
     ensures value { past_of result ≡ spec.all_outs_past ys.now ns.now }
 {
-    if ys.is_empty() {
-        return None;
-    }
-    let count = ys[0];
-    match words_past(1, ys, ns) {
-        Some((more, rest)) => outs_past(count, more, rest),
-        None => None,
-    }
+    let count = *ys.first()?;
+    let (more, rest) = words_past(1, ys, ns)?;
+    outs_past(count, more, rest)
 }
 
 // The same of one rule.
 fn rule_past<'a>(f: u16, ys: &'a [u16], ns: &'a [u16]) -> Option<(&'a [u16], &'a [u16])>
     ensures value { past_of result ≡ spec.rule_past f ys.now ns.now }
 {
-    let [w, more @ ..] = ys else {
-        return None;
-    };
-    let [v, rest @ ..] = ns else {
-        return None;
-    };
-    match wants_past(f, *w, *v, more, rest) {
-        Some((outs, others)) => all_outs_past(outs, others),
-        None => None,
-    }
+    let (w, more) = ys.split_first()?;
+    let (v, rest) = ns.split_first()?;
+    let (outs, others) = wants_past(f, *w, *v, more, rest)?;
+    all_outs_past(outs, others)
 }
 
 // Whether the table of the words ys, without the wants of the field f, is that of ns.
 pub fn same_without(f: u16, ys: &[u16], ns: &[u16]) -> bool
     ensures value { result ≡ spec.same_without f ys.now ns.now }
 {
+    // No rule is empty, so there are no more of them than words.
     let count = ys.len();
     let mut ys = ys;
     let mut ns = ns;
@@ -138,13 +112,11 @@ pub fn same_without(f: u16, ys: &[u16], ns: &[u16]) -> bool
         if ys.is_empty() {
             return ns.is_empty();
         }
-        match rule_past(f, ys, ns) {
-            Some((more, rest)) => {
-                ys = more;
-                ns = rest;
-            }
-            None => return false,
-        }
+        let Some((more, rest)) = rule_past(f, ys, ns) else {
+            return false;
+        };
+        ys = more;
+        ns = rest;
     }
     ys.is_empty() && ns.is_empty()
 }

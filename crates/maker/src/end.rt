@@ -1,30 +1,19 @@
 // Where a table ends: every rule behind the last one with outs is left out.
-ghost use Rattle.std.specs.Prelude.{◌≡◌, ℕ, ◌<◌, ◌≤◌, length, IfSome};
+ghost use Rattle.std.specs.Prelude.{◌≡◌, ◌<◌, ◌≤◌, length, IfSome};
 ghost use Rattle.packet.specs.Table.{Table};
 ghost use Rattle.table.specs.Words.{encode};
 ghost use Rattle.maker.specs.End as spec;
 ghost use Rattle.maker.specs.End.{rest_of, after_of, Ended};
 
-// The words behind the first n.
-fn skip(n: usize, words: &[u16]) -> Option<&[u16]>
-    ensures value { rest_of result ≡ spec.skip n words.now }
-    ensures shorter { IfSome result (λ ws. length ws.now ≤ length words.now) }
-{
-    if n > words.len() {
-        return None;
-    }
-    Some(&words[n..])
-}
+use crate::size::Size;
 
 // The words behind an out.
 fn out_after(words: &[u16]) -> Option<&[u16]>
     ensures value { rest_of result ≡ spec.out_after words.now }
     ensures shorter { IfSome result (λ ws. length ws.now ≤ length words.now) }
 {
-    let [c, rest @ ..] = words else {
-        return None;
-    };
-    skip(2 * *c as usize, rest)
+    let (count, rest) = words.split_first()?;
+    rest.get(2 * usize::from(*count)..)
 }
 
 // The words behind `count` outs.
@@ -34,10 +23,7 @@ fn outs_after(count: u16, words: &[u16]) -> Option<&[u16]>
 {
     let mut words = words;
     for _i in 0..count {
-        let Some(rest) = out_after(words) else {
-            return None;
-        };
-        words = rest;
+        words = out_after(words)?;
     }
     Some(words)
 }
@@ -47,13 +33,9 @@ fn counted_after(words: &[u16]) -> Option<(u16, &[u16])>
     ensures value { after_of result ≡ spec.counted_after words.now }
     ensures shorter { IfSome result (λ p. length p.1.now ≤ length words.now) }
 {
-    let [count, outs @ ..] = words else {
-        return None;
-    };
-    match outs_after(*count, outs) {
-        Some(rest) => Some((*count, rest)),
-        None => None,
-    }
+    let (count, outs) = words.split_first()?;
+    let rest = outs_after(*count, outs)?;
+    Some((*count, rest))
 }
 
 // How many outs the first rule has, and the words behind it.
@@ -61,27 +43,26 @@ fn rule_after(words: &[u16]) -> Option<(u16, &[u16])>
     ensures value { after_of result ≡ spec.rule_after words.now }
     ensures shorter { IfSome result (λ p. length p.1.now < length words.now) }
 {
-    let [w, rest @ ..] = words else {
-        return None;
-    };
-    match skip(2 * *w as usize, rest) {
-        Some(outs) => counted_after(outs),
-        None => None,
-    }
+    let (count, rest) = words.split_first()?;
+    let outs = rest.get(2 * usize::from(*count)..)?;
+    counted_after(outs)
 }
 
-// How many words and rules of the table are left.
-pub fn end(words: &[u16]) -> (usize, usize)
+// How much of the table is left.
+pub fn end(words: &[u16]) -> Size
     ensures value { (t : Table) → words.now ≡ encode t → Ended t result }
-    ensures bound { result.0 ≤ length words.now }
-    ensures rules { result.1 ≤ length words.now }
+    ensures bound { result.words ≤ length words.now }
+    ensures rules { result.rules ≤ length words.now }
 {
     let Some((outs, rest)) = rule_after(words) else {
-        return (0, 0);
+        return Size::default();
     };
-    let (size, rules) = end(rest);
-    if outs == 0 && rules == 0 {
-        return (0, 0);
+    let behind = end(rest);
+    if outs == 0 && behind.rules == 0 {
+        return Size::default();
     }
-    (words.len() - rest.len() + size, rules + 1)
+    Size {
+        words: words.len() - rest.len() + behind.words,
+        rules: behind.rules + 1,
+    }
 }

@@ -6,25 +6,30 @@ ghost use Rattle.table.specs.Words.{encode};
 ghost use Rattle.maker.specs.Making.{JoinedAs};
 
 use crate::compare::same_without;
-use crate::made::Made;
+use crate::size::Size;
 
 // The most rules of a table on the way.
 const MOST: usize = 8192;
 
-// Y is the first `y` words of `out` and N the `n` words behind them; they have `more` and `rest` rules.
-pub fn join(f: u8, y: usize, more: usize, n: usize, rest: usize, out: &mut [u16]) -> Made
-    requires within { y + n ≤ length out.old }
-    requires few { more ≤ 8192 }
-    requires fewer { rest ≤ 8192 }
-    ensures joined { (s t : Table) → take y out.old ≡ encode s → take n (drop y out.old) ≡ encode t →
-        more ≡ length s → rest ≡ length t → Each GoodRule s → Each GoodRule t → JoinedAs f s t (y + n) out.new result }
+// Y stands at the front of `out` and N behind it. None is a table that is too long.
+pub fn join(f: u8, y: Size, n: Size, out: &mut [u16]) -> Option<Size>
+    requires within { y.words + n.words ≤ length out.old }
+    requires few { y.rules ≤ 8192 }
+    requires fewer { n.rules ≤ 8192 }
+    ensures joined { (s t : Table) → take y.words out.old ≡ encode s → take n.words (drop y.words out.old) ≡ encode t →
+        y.rules ≡ length s → n.rules ≡ length t → Each GoodRule s → Each GoodRule t → JoinedAs f s t (y.words + n.words) out.new result }
 {
-    if same_without(f as u16, &out[0..y], &out[y..y + n]) {
-        out.copy_within(y..y + n, 0);
-        return Made::Rules(n, rest);
+    let both = Size {
+        words: y.words + n.words,
+        rules: y.rules + n.rules,
+    };
+    let lent = &out[..];
+    if same_without(f as u16, &lent[..y.words], &lent[y.words..both.words]) {
+        out.copy_within(y.words..both.words, 0);
+        return Some(n);
     }
-    if more + rest > MOST {
-        return Made::Over;
+    if both.rules > MOST {
+        return None;
     }
-    Made::Rules(y + n, more + rest)
+    Some(both)
 }

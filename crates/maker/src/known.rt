@@ -1,15 +1,11 @@
 // What is known of a packet on the way to a leaf: some fields have these values, and a packet that has them.
-ghost use Rattle.std.specs.Prelude.{◌≤◌};
-
-use leaves::Pair;
-use packet::Packet;
+use arrayvec::ArrayVec;
+use packet::{Packet, Pair};
 
 mod calls;
 
-#[derive(Clone, Copy)]
+#[derive(Drop)]
 pub struct Known {
-    wants: [Pair; 8],
-    count: usize,
+    wants: ArrayVec<Pair, 8>,
     sample: Packet,
-    ghost within: { count ≤ 8 },
 }

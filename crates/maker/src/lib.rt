@@ -6,9 +6,8 @@ mod end;
 mod join;
 mod known;
 mod leaf;
-mod made;
 pub mod maker;
 mod making;
-mod whole;
+mod size;
 
 pub use maker::{Maker, NoTable};

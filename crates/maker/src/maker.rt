@@ -12,6 +12,8 @@ use octets::Fault;
 use packet::Packet;
 
 mod calls;
+mod fault;
+mod whole;
 
 #[derive(Drop)]
 pub struct Maker {
@@ -23,7 +25,7 @@ pub struct Maker {
 }
 
 // Why no table was made.
-#[derive(Clone, Copy, Debug)]
+#[derive(Clone, Copy, Debug, PartialEq, Eq)]
 pub enum NoTable {
     // The text doesn't fit.
     Refused(Fault),

@@ -11,22 +11,22 @@ ghost use Rattle.maker.specs.Tasks.{Task};
 use crate::join::join;
 use crate::known::Known;
 use crate::leaf::leaf;
-use crate::made::Made;
-use leaves::Pair;
+use crate::size::Size;
 use meaning::Evaluator;
 use octets::Fault;
+use packet::Pair;
 
-// The table of the pairs from i on, where some values are known.
+// The table of the pairs from i on, where some values are known. None is a table on the way that is too long.
 pub fn make(
     evaluator: &mut Evaluator,
     pairs: &[Pair],
     i: usize,
-    known: Known,
+    known: &Known,
     out: &mut [u16],
-) -> Result<Made, Fault>
-    requires task { Task (meaning (nodes_of (text_of evaluator.old))) pairs.now i known (length out.old) }
+) -> Result<Option<Size>, Fault>
+    requires task { Task (meaning (nodes_of (text_of evaluator.old))) pairs.now i known.now (length out.old) }
     ensures text { text_of evaluator.new ≡ text_of evaluator.old }
-    ensures made { MadeOf (meaning (nodes_of (text_of evaluator.old))) (wants_of (drop i pairs.now)) (known_of known) out.new result }
+    ensures made { MadeOf (meaning (nodes_of (text_of evaluator.old))) (wants_of (drop i pairs.now)) (known_of known.now) out.new result }
 {
     if i >= pairs.len() {
         return leaf(evaluator, known, out);
@@ -35,23 +35,14 @@ pub fn make(
     if known.knows(pair.field) {
         return make(evaluator, pairs, i + 1, known, out);
     }
-    let yes = match make(evaluator, pairs, i + 1, known.with(pair), out) {
-        Ok(yes) => yes,
-        Err(fault) => return Err(fault),
+    let with = known.with(pair);
+    let Some(yes) = make(evaluator, pairs, i + 1, &with, out)? else {
+        // What is left is looked at for too many copies alone.
+        make(evaluator, pairs, i + 1, known, out)?;
+        return Ok(None);
     };
-    let Made::Rules(y, more) = yes else {
-        // Too long already: what is left is looked at for too many copies alone.
-        return match make(evaluator, pairs, i + 1, known, out) {
-            Ok(_) => Ok(Made::Over),
-            Err(fault) => Err(fault),
-        };
+    let Some(no) = make(evaluator, pairs, i + 1, known, &mut out[yes.words..])? else {
+        return Ok(None);
     };
-    let no = match make(evaluator, pairs, i + 1, known, &mut out[y..]) {
-        Ok(no) => no,
-        Err(fault) => return Err(fault),
-    };
-    let Made::Rules(n, rest) = no else {
-        return Ok(Made::Over);
-    };
-    Ok(join(pair.field, y, more, n, rest, out))
+    Ok(join(pair.field, yes, no, out))
 }

@@ -1,31 +1,52 @@
 -- What a policy gives, by what its parts give.
 use Rattle.std.proofs.Common.{◌≡◌, ℕ, ◌+◌, ◌<◌, ◌≤◌, Bool, true, false, ◌||◌, ltb, List, [], ◌∷◌, ◌++◌, length, get_or, take, drop, Ok, Err, Result, sym, refl, ap, ◌∙◌, subst, arith}
-use Rattle.std.proofs.lemmas.Bool.{cond-true, cond-false, ltb-true, lt-ltb, or_from, or_left, or_right}
-use Rattle.std.proofs.lemmas.List.{map_more, map-append, take-append-drop, take_all}
+use Rattle.std.proofs.lemmas.Bool.{cond-true, cond-false, ltb-true, lt-ltb, le-ltb, or_from, or_left, or_right}
+use Rattle.std.proofs.lemmas.List.{length-map, map_more, map-append, take-append-drop}
+use Rattle.std.specs.Result.{IsErrAnd}
+use Rattle.std.proofs.lemmas.Result.{err_from_is_err_and}
 use Rattle.octets.specs.declared.fault.Fault.{Fault}
 use Rattle.octets.specs.declared.fault.Fault.TheVariants as faults
 use Rattle.packet.specs.Packet as packets
 use Rattle.packet.specs.Packet.{once, put}
-use Rattle.packet.specs.declared.Packet.{Packet}
+use Rattle.packet.specs.declared.packets.Packet.{Packet}
 use Rattle.packet.specs.Policy.{Test, holds, Policy, keep, puts, and, then, each, copies, some, overfull}
 use Rattle.packet.proofs.Once.{once_both, once_one, once_grows, some_append, some_once, each_append, each_one, each_once}
-use Rattle.meaning.specs.declared.copies.Copies.{Copies}
-use Rattle.meaning.specs.Listed.{fields_of}
-use Rattle.meaning.specs.Answers.{listing, Told, Answered, AnsweredEach}
-use Rattle.meaning.proofs.Gathering.{gathered}
+use Rattle.packet.specs.Copies.{listing}
+use Rattle.packet.specs.declared.copies.Copies.{Copies}
+use Rattle.packet.specs.Listed.{fields_of}
+use Rattle.meaning.specs.Answers.{Told, Answered, AnsweredEach}
 
-told_same : (f g : Bool) (ps qs : List packets.Packet) (r : Result Copies Fault) → f ≡ g → once ps ≡ once qs → Told f ps r → Told g qs r
+-- a policy has too many copies
+abbrev Refused : Policy → packets.Packet → Fault → Type 0
+Refused a p x = (overfull a p ≡ true) × (x ≡ faults.Copies)
+
+abbrev RefusedEach : Policy → List packets.Packet → Fault → Type 0
+RefusedEach a ps x = ((ltb 16 (length (once (each (copies a) ps))) || some (overfull a) ps) ≡ true) × (x ≡ faults.Copies)
+
+told_same : {n : ℕ} (f g : Bool) (ps qs : List packets.Packet) (r : Result (Copies n) Fault) → f ≡ g → once ps ≡ once qs → Told f ps r → Told g qs r
 told_same f g ps qs (Ok s) e o h = (sym e ∙ h.0, h.1 ∙ o)
 told_same f g ps qs (Err x) e o h = (sym e ∙ h.0, h.1)
 
-pub answer_of_lem : (a b : Policy) (p : packets.Packet) (r : Result Copies Fault) → a ≡ b → Answered b p r → Answered a p r
+-- a set never holds more than 16 packets
+pub gathered : {n : ℕ} (s : Copies n) (ps : List packets.Packet) → n ≤ 16 → listing s ≡ once ps → Told (ltb 16 (length (once ps))) ps (Ok s)
+gathered s ps le e = (le-ltb 16 (length (once ps)) (omega (arith, ap length e, length-map s.packets.items (λ q. q.fields), s.few)), e)
+
+-- and one that has no room for a packet has 16
+overflows : (n : ℕ) (ps : List packets.Packet) → 16 ≤ n → ltb n (length ps) ≡ true → ltb 16 (length ps) ≡ true
+overflows n ps le h = lt-ltb 16 (length ps) (omega (arith, ltb-true n (length ps) h))
+
+-- an answer handed on by `?`
+pub handed_on : {n : ℕ} (full : Bool) (ps : List packets.Packet) (x : Fault) (r : Result (Copies n) Fault) → (full ≡ true) × (x ≡ faults.Copies) → IsErrAnd r (λ y. y ≡ x) → Told full ps r
+handed_on full ps x r h e = let p = err_from_is_err_and r e in rw p.1 (h.0, p.2 ∙ h.1)
+
+pub answer_of_lem : {n : ℕ} (a b : Policy) (p : packets.Packet) (r : Result (Copies n) Fault) → a ≡ b → Answered b p r → Answered a p r
 answer_of_lem a b p r e h = subst (λ x. Answered x p r) (sym e) h
 
 or_false : (x : Bool) → x ≡ (x || false)
 or_false true = refl
 or_false false = refl
 
-module _ (t : Test) (p : packets.Packet) (s : Copies) where
+module _ {n : ℕ} (t : Test) (p : packets.Packet) (s : Copies n) where
   pub keep_passed : true ≡ holds t p → listing s ≡ p ∷ [] → Answered (keep t) p (Ok s)
   unfolding copies overfull
   keep_passed h e = (refl, e ∙ sym (ap once (cond-true (holds t p) (p ∷ []) [] (sym h)) ∙ once_one p))
@@ -34,37 +55,37 @@ module _ (t : Test) (p : packets.Packet) (s : Copies) where
   unfolding copies overfull once
   keep_refused h e = (refl, e ∙ sym (ap once (cond-false (holds t p) (p ∷ []) [] (sym h))))
 
-pub put_gives : (f x : ℕ) (p q : packets.Packet) (s : Copies) → q ≡ put f x p → listing s ≡ q ∷ [] → Answered (puts f x) p (Ok s)
+pub put_gives : {n : ℕ} (f x : ℕ) (p q : packets.Packet) (s : Copies n) → q ≡ put f x p → listing s ≡ q ∷ [] → Answered (puts f x) p (Ok s)
 unfolding copies overfull
 put_gives f x p q s is e = (refl, e ∙ ap (λ y. y ∷ []) is ∙ sym (once_one (put f x p)))
 
 module _ (a b : Policy) (p : packets.Packet) where
-  pub and_first : (x : Fault) → Answered a p (Err x) → Answered (and a b) p (Err x)
+  pub and_first : (x : Fault) → Refused a p x → Refused (and a b) p x
   unfolding overfull
   and_first x h = (or_right _ _ (or_left _ _ h.0), h.1)
 
-  pub and_second : (x : Fault) → Answered b p (Err x) → Answered (and a b) p (Err x)
+  pub and_second : (x : Fault) → Refused b p x → Refused (and a b) p x
   unfolding overfull
   and_second x h = (or_right (ltb 16 (length (once (copies (and a b) p)))) _ (or_right (overfull a p) _ h.0), h.1)
 
-  module _ (s t : Copies) (h : Answered a p (Ok s)) (g : Answered b p (Ok t)) where
+  module _ {n : ℕ} (s t : Copies n) (h : Answered a p (Ok s)) (g : Answered b p (Ok t)) where
     both : once (listing s ++ listing t) ≡ once (copies (and a b) p)
     unfolding copies
     both = (λ i. once (h.1 i ++ g.1 i)) ∙ once_both (copies a p) (copies b p)
 
-    pub and_joined : (u : Copies) → listing u ≡ once (listing s ++ listing t) → Answered (and a b) p (Ok u)
+    pub and_joined : (u : Copies n) → n ≤ 16 → listing u ≡ once (listing s ++ listing t) → Answered (and a b) p (Ok u)
     unfolding overfull
-    and_joined u e = (or_from _ _ (gathered u (copies (and a b) p) (e ∙ both)).0 (or_from _ _ h.0 g.0), e ∙ both)
+    and_joined u le e = (or_from _ _ (gathered u (copies (and a b) p) le (e ∙ both)).0 (or_from _ _ h.0 g.0), e ∙ both)
 
-    pub and_full : (x : Fault) → (ltb 16 (length (once (listing s ++ listing t))) ≡ true) × (x ≡ faults.Copies) → Answered (and a b) p (Err x)
+    pub and_full : (x : Fault) → 16 ≤ n → (ltb n (length (once (listing s ++ listing t))) ≡ true) × (x ≡ faults.Copies) → Refused (and a b) p x
     unfolding overfull
-    and_full x j = (or_left (ltb 16 (length (once (copies (and a b) p)))) _ (ap (λ l. ltb 16 (length l)) (sym both) ∙ j.0), j.1)
+    and_full x le j = (or_left (ltb 16 (length (once (copies (and a b) p)))) _ (ap (λ l. ltb 16 (length l)) (sym both) ∙ overflows n _ le j.0), j.1)
 
-  pub then_first : (x : Fault) → Answered a p (Err x) → Answered (then a b) p (Err x)
+  pub then_first : (x : Fault) → Refused a p x → Refused (then a b) p x
   unfolding overfull
   then_first x h = (or_right _ _ (or_left _ _ h.0), h.1)
 
-  pub then_each : (s : Copies) (ps : List packets.Packet) (r : Result Copies Fault) → ps ≡ listing s → Answered a p (Ok s) → AnsweredEach b ps r → Answered (then a b) p r
+  pub then_each : {n : ℕ} (s : Copies n) (ps : List packets.Packet) (r : Result (Copies n) Fault) → ps ≡ listing s → Answered a p (Ok s) → AnsweredEach b ps r → Answered (then a b) p r
   unfolding copies overfull
   then_each s ps r e h j =
       let is = e ∙ h.1 in
@@ -92,28 +113,22 @@ module _ (a : Policy) (ps : List Packet) (i : ℕ) (d : Packet) (lt : i < length
   pub each_few : some (overfull a) (fields_of (take i ps)) ≡ false → overfull a (get_or ps i d).fields ≡ false → some (overfull a) (fields_of (take (i + 1) ps)) ≡ false
   each_few h g = full ∙ or_from _ _ h g
 
-  pub each_fault : (x : Fault) → Answered a (get_or ps i d).fields (Err x) → AnsweredEach a (fields_of ps) (Err x)
+  pub each_fault : (x : Fault) → Refused a (get_or ps i d).fields x → RefusedEach a (fields_of ps) x
   each_fault x h = (
     or_right _ _ (ap (some (overfull a)) cut ∙ some_append (overfull a) (fields_of (take (i + 1) ps)) (fields_of (drop (i + 1) ps)) ∙ or_left _ _ (full ∙ or_right _ _ h.0)),
     h.1,
   )
 
-  module _ (all t : Copies) (so : listing all ≡ once (each (copies a) (fields_of (take i ps)))) (is : listing t ≡ once (copies a (get_or ps i d).fields)) where
+  module _ {n : ℕ} (all t : Copies n) (so : listing all ≡ once (each (copies a) (fields_of (take i ps)))) (is : listing t ≡ once (copies a (get_or ps i d).fields)) where
     joined : once (listing all ++ listing t) ≡ once (each (copies a) (fields_of (take (i + 1) ps)))
     joined = (λ j. once (so j ++ is j)) ∙ once_both (each (copies a) (fields_of (take i ps))) (copies a (get_or ps i d).fields) ∙ ap once (sym given)
 
-    pub each_more : (u : Copies) → listing u ≡ once (listing all ++ listing t) → listing u ≡ once (each (copies a) (fields_of (take (i + 1) ps)))
+    pub each_more : (u : Copies n) → listing u ≡ once (listing all ++ listing t) → listing u ≡ once (each (copies a) (fields_of (take (i + 1) ps)))
     each_more u h = h ∙ joined
 
-    pub each_full : (x : Fault) → (ltb 16 (length (once (listing all ++ listing t))) ≡ true) × (x ≡ faults.Copies) → AnsweredEach a (fields_of ps) (Err x)
-    each_full x h =
+    pub each_full : (x : Fault) → 16 ≤ n → (ltb n (length (once (listing all ++ listing t))) ≡ true) × (x ≡ faults.Copies) → RefusedEach a (fields_of ps) x
+    each_full x le h =
         let front = each (copies a) (fields_of (take (i + 1) ps)) in
         let rest = each (copies a) (fields_of (drop (i + 1) ps)) in
         let whole : each (copies a) (fields_of ps) ≡ front ++ rest = ap (each (copies a)) cut ∙ each_append (copies a) (fields_of (take (i + 1) ps)) (fields_of (drop (i + 1) ps)) in
-        (or_left _ _ (lt-ltb 16 (length (once (each (copies a) (fields_of ps)))) (omega (arith, ltb-true 16 (length (once (listing all ++ listing t))) h.0, ap length joined, once_grows front rest, ap (λ l. length (once l)) whole))), h.1)
-
-pub each_all : (a : Policy) (ps : List Packet) (i : ℕ) (all : Copies) → length ps ≤ i → listing all ≡ once (each (copies a) (fields_of (take i ps))) → some (overfull a) (fields_of (take i ps)) ≡ false → AnsweredEach a (fields_of ps) (Ok all)
-each_all a ps i all h so no_more =
-    let e = ap fields_of (take_all i ps h) in
-    let is = so ∙ ap (λ l. once (each (copies a) l)) e in
-    (or_from _ _ (gathered all (each (copies a) (fields_of ps)) is).0 (ap (some (overfull a)) (sym e) ∙ no_more), is)
+        (or_left _ _ (lt-ltb 16 (length (once (each (copies a) (fields_of ps)))) (omega (arith, ltb-true n (length (once (listing all ++ listing t))) h.0, ap length joined, once_grows front rest, ap (λ l. length (once l)) whole))), h.1)

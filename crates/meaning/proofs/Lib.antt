@@ -1,4 +1,2 @@
 pub mod Answering
-pub mod Gathering
-pub mod Remembering
 pub mod Telling

@@ -1,7 +1,6 @@
 -- What a node tells of a packet, by what the earlier nodes tell.
-use Rattle.std.proofs.Common.{◌≡◌, ℕ, ◌+◌, ◌<◌, Bool, true, false, not, ◌&&◌, ◌||◌, eqb, List, [], length, get_or, take, set, sym, refl, ap, ◌∙◌, ⊎_elim, arith}
-use Rattle.std.proofs.lemmas.List.{get_or-set_same, get_or-set_other}
-use Rattle.std.proofs.lemmas.Bool.{cases_lt, and_parts, true≢false}
+use Rattle.std.proofs.Common.{◌≡◌, ℕ, ◌<◌, Bool, true, false, not, ◌&&◌, ◌||◌, eqb, List, [], length, get_or, take, sym, refl, ap, ◌∙◌}
+use Rattle.std.proofs.lemmas.Bool.{and_parts, true≢false}
 use Rattle.packet.specs.Packet.{Packet, field}
 use Rattle.packet.specs.Policy.{holds, always, isnt, keep}
 use Rattle.text.specs.declared.node.Node.{Node}
@@ -65,13 +64,6 @@ module _ (ns : List Node) (k : ℕ) (p : Packet) (row : List Bool) (says : Says 
 
   pub told_by : (n : Node) → Stands ns k n → tells row p n ≡ holds (test_at (trees ns) k) p
   told_by n st = by_tree n st.earlier ∙ ap (λ t. holds (as_test t) p) (sym st.tree)
-
-  pub says_more : (v : Bool) → k < length row → v ≡ holds (test_at (trees ns) k) p → Says ns (k + 1) p (set row k v)
-  says_more v lt is = λ a h.
-      ⊎_elim
-      (λ old. get_or-set_other row k a v false (omega arith) ∙ says a old)
-      (λ new. let e : a ≡ k = omega arith in ap (λ j. get_or (set row k v) j false) e ∙ get_or-set_same row k v false lt ∙ is ∙ ap (λ j. holds (test_at (trees ns) j) p) (sym e))
-      (cases_lt a k)
 
 abbrev pub a_test_lem : Node → Bool
 a_test_lem n = same_sort (sort_of n) sorts.Test

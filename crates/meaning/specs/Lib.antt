@@ -1,4 +1,4 @@
 pub mod Answers
 pub mod Evaluators
 pub mod Kept
-pub mod Listed
+pub mod Memos

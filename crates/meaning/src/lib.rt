@@ -3,7 +3,6 @@
 
 pub mod copies;
 pub mod evaluator;
-mod gives;
 mod memo;
 mod tests;
 

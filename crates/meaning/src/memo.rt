@@ -1,6 +1,7 @@
-// What was worked out before. The memo may forget; what it keeps is right for the text that it is used with.
-ghost use Rattle.std.specs.Prelude.{◌≡◌, ◌<◌, ◌≤◌, length, IfSome};
-ghost use Rattle.meaning.specs.Kept.{RowAt, EntryAt};
+// What was worked out before. It may be forgotten; what is kept is right for the text that it is used with.
+ghost use Rattle.std.specs.Prelude.{◌≡◌, ◌<◌, IfSome};
+ghost use Rattle.std.specs.List.{Any, Contains};
+ghost use Rattle.meaning.specs.Memos.{Tells, Keeps};
 
 use crate::copies::Copies;
 use packet::Packet;
@@ -18,45 +19,51 @@ pub struct Row {
     pub tests: [bool; 512],
 }
 
-// The copies that a node gives of a packet.
-#[derive(Clone, Copy)]
+// The copies of a packet.
+#[derive(Drop)]
 pub struct Entry {
-    pub node: u16,
     pub packet: Packet,
     pub copies: Copies,
 }
 
+// What a node gave, for the packet that was asked about then.
 #[derive(Drop)]
-pub struct Memo {
-    // Those in use come first.
-    pub rows: Vec<Row>,
-    pub filled: usize,
-    // Those of node 0, then those of node 1, and so on; of each node's those in use come first.
+pub struct Kept {
+    pub asked: Packet,
     pub entries: Vec<Entry>,
-    pub used: [u8; 512],
 }
 
 // What the packet's row says of node a, if it has one.
 pub fn known_test(rows: &[Row], a: usize, p: Packet) -> Option<bool>
     requires within { a < 512 }
-    ensures found { IfSome result (λ b. RowAt rows.now p.fields a b) }
+    ensures found { IfSome result (λ b. Any (Tells p.fields a b) rows.now) }
 {
-    for row in rows {
-        if row.packet == p {
-            return Some(row.tests[a]);
-        }
-    }
-    None
+    let row = rows.iter().find(|row| row.packet == p)?;
+    Some(row.tests[a])
 }
 
-// Where the copies that node k gave of the packet are, if they were kept.
-pub fn known_copies(entries: &[Entry], k: u16, p: Packet) -> Option<usize>
-    ensures found { IfSome result (λ i. EntryAt entries.now k p.fields i) }
-{
-    for (i, e) in entries.iter().enumerate() {
-        if e.node == k && e.packet == p {
-            return Some(i);
+impl Kept {
+    // What was kept of p for the packet that is asked about.
+    pub fn find(&self, asked: Packet, p: Packet) -> Option<&Entry>
+        ensures found { IfSome result (λ e. (e.now.packet.fields ≡ p.fields) × Contains self.now.entries.items e.now) }
+    {
+        if self.asked != asked {
+            return None;
+        }
+        self.entries.iter().find(|entry| entry.packet == p)
+    }
+
+    // What came up for one packet seldom comes up for the next, so that what was kept for another one is forgotten. What comes
+    // first is kept and then no more, so that packets that come up in turn don't drive one another out.
+    pub fn keep(&mut self, asked: Packet, entry: Entry)
+        ensures items { Keeps self.old.entries.items entry self.new.entries.items }
+    {
+        if self.asked != asked {
+            self.asked = asked;
+            self.entries.clear();
+        }
+        if self.entries.len() < self.entries.capacity() {
+            self.entries.push_reserved(entry);
         }
     }
-    None
 }

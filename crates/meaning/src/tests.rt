@@ -3,9 +3,9 @@ ghost use Rattle.std.specs.Prelude.{◌≡◌, ◌<◌, ◌≤◌, length};
 ghost use Rattle.packet.specs.Policy.{holds};
 ghost use Rattle.text.specs.Texts.{nodes_of};
 ghost use Rattle.text.specs.Trees.{trees, test_at};
-ghost use Rattle.meaning.specs.Kept.{Stands, Says, RowRight, Right};
+ghost use Rattle.meaning.specs.Kept.{Stands, Says, RowRight};
 
-use crate::memo::{Memo, ROWS, Row, known_test};
+use crate::memo::Row;
 use packet::Packet;
 use text::{Node, Text};
 
@@ -42,21 +42,4 @@ pub fn row_of(text: &Text, p: Packet) -> Row
         tests[k] = tells(text, k, p, &tests);
     }
     Row { packet: p, tests }
-}
-
-// Whether the packet passes node a, by its row, which is made where there is none.
-pub fn passes(text: &Text, a: usize, p: Packet, memo: &mut Memo) -> bool
-    requires within { a < length (nodes_of text.now) }
-    requires memo { Right (nodes_of text.now) memo.old }
-    ensures memo { Right (nodes_of text.now) memo.new }
-    ensures value { result ≡ holds (test_at (trees (nodes_of text.now)) a) p.fields }
-{
-    if let Some(passed) = known_test(&memo.rows.as_slice()[..memo.filled], a, p) {
-        return passed;
-    }
-    let row = row_of(text, p);
-    let at = if memo.filled < ROWS { memo.filled } else { 0 };
-    memo.rows[at] = row;
-    memo.filled = at + 1;
-    row.tests[a]
 }

@@ -1,46 +1,36 @@
 -- Cutting bytes at the first mark, byte by byte and as a whole.
-use Rattle.std.proofs.Common.{◌≡◌, ℕ, ◌+◌, ◌<◌, ◌≤◌, true, false, cond, eqb, List, [], ◌∷◌, ◌++◌, length, get_or, take, drop, filter, sym, refl, ap, ◌∙◌, arith}
-use Rattle.std.proofs.lemmas.List.{append-nil, append_assoc, take_more, take_all, drop_more, drop_all}
+use Rattle.std.proofs.Common.{◌≡◌, ℕ, zero, suc, ◌+◌, ◌<◌, ◌≤◌, true, false, cond, eqb, List, [], ◌∷◌, length, get_or, take, drop, filter, sym, refl, ap, ◌∙◌, arith}
 use Rattle.notation.specs.declared.marks.Mark.{Mark}
 use Rattle.notation.specs.Marks.{marks, before, behind, onto, parts}
 use Rattle.notation.specs.Words.{some, words_of, unblanked}
 use Rattle.notation.specs.declared.marks.Mark.TheVariants.{Blank}
 use Rattle.std.proofs.lemmas.Bool.{eqb-true, cond-true, cond-false, true≢false, false≢true}
 
-pub before_past : (m : Mark) (bs : List ℕ) (i : ℕ) → i < length bs → marks m (get_or bs i 0) ≡ false → before m (drop i bs) ≡ get_or bs i 0 ∷ before m (drop (i + 1) bs)
+-- the first mark stands at i
+pub front_at : (m : Mark) (bs : List ℕ) (i : ℕ) → i < length bs → marks m (get_or bs i 0) ≡ true → ((k : ℕ) → k < i → marks m (get_or bs k 0) ≡ false) → take i bs ≡ before m bs
 unfolding before
-before_past m bs i h e = rw (drop_more bs i 0 h, e)
+front_at m [] i h at none = absurd (omega arith)
+front_at m (b ∷ bs) zero h at none = sym (cond-true _ _ _ at)
+front_at m (b ∷ bs) (suc i) h at none =
+    ap (λ l. b ∷ l) (front_at m bs i (omega arith) at (λ k lt. none (suc k) (omega arith))) ∙ sym (cond-false _ _ _ (none 0 (omega arith)))
 
-pub before_at : (m : Mark) (bs : List ℕ) (i : ℕ) → i < length bs → marks m (get_or bs i 0) ≡ true → before m (drop i bs) ≡ []
-unfolding before
-before_at m bs i h e = rw (drop_more bs i 0 h, e)
-
-pub behind_past : (m : Mark) (bs : List ℕ) (i : ℕ) → i < length bs → marks m (get_or bs i 0) ≡ false → behind m (drop i bs) ≡ behind m (drop (i + 1) bs)
+pub back_at : (m : Mark) (bs : List ℕ) (i : ℕ) → i < length bs → marks m (get_or bs i 0) ≡ true → ((k : ℕ) → k < i → marks m (get_or bs k 0) ≡ false) → drop (suc i) bs ≡ behind m bs
 unfolding behind
-behind_past m bs i h e = rw (drop_more bs i 0 h, e)
-
-pub behind_at : (m : Mark) (bs : List ℕ) (i : ℕ) → i < length bs → marks m (get_or bs i 0) ≡ true → behind m (drop i bs) ≡ drop (i + 1) bs
-unfolding behind
-behind_at m bs i h e = rw (drop_more bs i 0 h, e)
-
--- one byte more that is no mark
-pub front_more : (m : Mark) (bs : List ℕ) (i : ℕ) → i < length bs → marks m (get_or bs i 0) ≡ false → before m bs ≡ take i bs ++ before m (drop i bs) → before m bs ≡ take (i + 1) bs ++ before m (drop (i + 1) bs)
-front_more m bs i h e p =
-    p ∙ ap (λ l. take i bs ++ l) (before_past m bs i h e) ∙ sym (append_assoc (take i bs) (get_or bs i 0 ∷ []) _)
-    ∙ ap (λ l. l ++ before m (drop (i + 1) bs)) (sym (take_more bs i 0 h))
-
--- the first mark
-pub front_at : (m : Mark) (bs : List ℕ) (i : ℕ) → i < length bs → marks m (get_or bs i 0) ≡ true → before m bs ≡ take i bs ++ before m (drop i bs) → take i bs ≡ before m bs
-front_at m bs i h e p = sym (p ∙ ap (λ l. take i bs ++ l) (before_at m bs i h e) ∙ append-nil (take i bs))
+back_at m [] i h at none = absurd (omega arith)
+back_at m (b ∷ bs) zero h at none = sym (cond-true _ _ _ at)
+back_at m (b ∷ bs) (suc i) h at none =
+    back_at m bs i (omega arith) at (λ k lt. none (suc k) (omega arith)) ∙ sym (cond-false _ _ _ (none 0 (omega arith)))
 
 -- no mark at all
-pub front_all : (m : Mark) (bs : List ℕ) (i : ℕ) → length bs ≤ i → before m bs ≡ take i bs ++ before m (drop i bs) → bs ≡ before m bs
+pub front_all : (m : Mark) (bs : List ℕ) → ((k : ℕ) → k < length bs → marks m (get_or bs k 0) ≡ false) → bs ≡ before m bs
 unfolding before
-front_all m bs i h p = sym (p ∙ ap (λ l. take i bs ++ before m l) (drop_all i bs h) ∙ append-nil (take i bs) ∙ take_all i bs h)
+front_all m [] none = refl
+front_all m (b ∷ bs) none = ap (λ l. b ∷ l) (front_all m bs (λ k lt. none (suc k) (omega arith))) ∙ sym (cond-false _ _ _ (none 0 (omega arith)))
 
-pub back_all : (m : Mark) (bs : List ℕ) (i : ℕ) → length bs ≤ i → behind m bs ≡ behind m (drop i bs) → [] ≡ behind m bs
+pub back_all : (m : Mark) (bs : List ℕ) → ((k : ℕ) → k < length bs → marks m (get_or bs k 0) ≡ false) → [] ≡ behind m bs
 unfolding behind
-back_all m bs i h p = sym (p ∙ ap (behind m) (drop_all i bs h))
+back_all m [] none = refl
+back_all m (b ∷ bs) none = back_all m bs (λ k lt. none (suc k) (omega arith)) ∙ sym (cond-false _ _ _ (none 0 (omega arith)))
 
 -- the first part, and those behind its mark
 parts_step : (m : Mark) (b : ℕ) (bs : List ℕ) → onto b (parts m bs) ≡ (b ∷ before m bs) ∷ parts m (behind m bs) → parts m (b ∷ bs) ≡ before m (b ∷ bs) ∷ parts m (behind m (b ∷ bs))
@@ -57,6 +47,18 @@ parts_inner m b (d ∷ ds) = ap (onto b) (parts_step m d ds (parts_inner m d ds)
 pub parts_cut : (m : Mark) (bs : List ℕ) → 0 < length bs → parts m bs ≡ before m bs ∷ parts m (behind m bs)
 parts_cut m [] h = absurd (omega arith)
 parts_cut m (b ∷ bs) h = parts_step m b bs (parts_inner m b bs)
+
+onto_long : (b : ℕ) (ps : List (List ℕ)) → length (onto b ps) ≤ length ps + 1
+onto_long b [] = omega arith
+onto_long b (p ∷ ps) = omega arith
+
+-- there are no more parts than bytes
+pub parts_few : (m : Mark) (bs : List ℕ) → length (parts m bs) ≤ length bs
+unfolding parts
+parts_few m [] = omega arith
+parts_few m (b ∷ bs) =
+    elim (marks m b) as (λ t. length (cond t ([] ∷ parts m bs) (onto b (parts m bs))) ≤ length (b ∷ bs))
+    [ true ↦ omega (arith, parts_few m bs) | false ↦ omega (arith, parts_few m bs, onto_long b (parts m bs)) ]
 
 -- the next word is what stands before the next blank, unless that is nothing
 pub words_cut : (bs : List ℕ) → 0 < length bs → words_of bs ≡ cond (some (before Blank bs)) (before Blank bs ∷ words_of (behind Blank bs)) (words_of (behind Blank bs))

@@ -7,3 +7,5 @@ pub mod Operands
 pub mod Notation
 pub mod Readers
 pub mod Writing
+pub mod Parts
+pub mod Refusals

@@ -1,8 +1,11 @@
 // The first word of a node.
-ghost use Rattle.std.specs.Prelude.{◌≡◌};
-ghost use Rattle.notation.specs.Kinds.{kind_of, same_word};
+ghost use Rattle.std.specs.Prelude.{◌≡◌, None, Some, MatchResult};
+ghost use Rattle.octets.specs.declared.fault.Fault.TheVariants.{Form};
+ghost use Rattle.notation.specs.Kinds.{kind_of};
 
-#[derive(Clone, Copy)]
+use octets::Fault;
+
+#[derive(Clone, Copy, Debug, PartialEq, Eq)]
 pub enum Kind {
     Always,
     Is,
@@ -15,37 +18,34 @@ pub enum Kind {
     Then,
 }
 
-// Whether a word is this one.
-pub fn same_word(word: &[u8], name: &[u8]) -> bool
-    ensures value { result ≡ same_word word.now name.now }
-{
-    word == name
-}
+impl TryFrom<&[u8]> for Kind {
+    type Error = Fault;
 
-impl Kind {
-    pub fn of(word: &[u8]) -> Option<Kind>
-        ensures value { result ≡ kind_of word.now }
+    #[tactic(auto, unfolding(crate::specs::Kinds::same_word))]
+    fn try_from(word: &[u8]) -> Result<Kind, Fault>
+        ensures cases { MatchResult result (λ k. kind_of word.now ≡ Some k) (λ e. (kind_of word.now ≡ None) × (e ≡ Form)) }
     {
-        if same_word(word, b"always") {
-            Some(Kind::Always)
-        } else if same_word(word, b"is") {
-            Some(Kind::Is)
-        } else if same_word(word, b"both") {
-            Some(Kind::Both)
-        } else if same_word(word, b"either") {
-            Some(Kind::Either)
-        } else if same_word(word, b"not") {
-            Some(Kind::Not)
-        } else if same_word(word, b"keep") {
-            Some(Kind::Keep)
-        } else if same_word(word, b"put") {
-            Some(Kind::Put)
-        } else if same_word(word, b"and") {
-            Some(Kind::And)
-        } else if same_word(word, b"then") {
-            Some(Kind::Then)
+        let is = |name: &[u8]| word == name;
+        if is(b"always") {
+            Ok(Kind::Always)
+        } else if is(b"is") {
+            Ok(Kind::Is)
+        } else if is(b"both") {
+            Ok(Kind::Both)
+        } else if is(b"either") {
+            Ok(Kind::Either)
+        } else if is(b"not") {
+            Ok(Kind::Not)
+        } else if is(b"keep") {
+            Ok(Kind::Keep)
+        } else if is(b"put") {
+            Ok(Kind::Put)
+        } else if is(b"and") {
+            Ok(Kind::And)
+        } else if is(b"then") {
+            Ok(Kind::Then)
         } else {
-            None
+            Err(Fault::Form)
         }
     }
 }

@@ -5,13 +5,14 @@ mod kind;
 mod laws;
 pub mod marks;
 pub mod number;
+pub mod parts;
 mod reader;
 mod used;
 pub mod words;
 
-pub use kind::same_word;
 pub use laws::notation_stands;
 pub use marks::{Mark, cut};
 pub use number::decimal;
+pub use parts::Parts;
 pub use reader::{Refusal, read};
 pub use words::Words;

@@ -3,7 +3,7 @@ ghost use Rattle.std.specs.Prelude.{◌≡◌, ◌+◌, ◌-◌, ◌<◌, ◌≤
 ghost use Rattle.notation.specs.Marks.{marks, before, behind};
 
 // What ends a line, a node, what stands in front of a comment, and a word.
-#[derive(Clone, Copy)]
+#[derive(Clone, Copy, Debug, PartialEq, Eq)]
 pub enum Mark {
     Newline,
     Semicolon,
@@ -19,7 +19,7 @@ impl Mark {
             Mark::Newline => b == b'\n',
             Mark::Semicolon => b == b';',
             Mark::Hash => b == b'#',
-            Mark::Blank => b == b' ' || b == b'\t' || b == b'\r',
+            Mark::Blank => matches!(b, b' ' | b'\t' | b'\r'),
         }
     }
 }
@@ -30,10 +30,8 @@ pub fn cut(bytes: &[u8], mark: Mark) -> (&[u8], &[u8])
     ensures back { result.1.now ≡ behind mark bytes.now }
     ensures shorter { length result.1.now ≤ length bytes.now - 1 }
 {
-    for (i, b) in bytes.iter().enumerate() {
-        if mark.is(*b) {
-            return (&bytes[0..i], &bytes[i + 1..]);
-        }
+    match bytes.iter().position(|b| mark.is(*b)) {
+        Some(i) => (&bytes[..i], &bytes[i + 1..]),
+        None => (bytes, &[]),
     }
-    (bytes, &[])
 }

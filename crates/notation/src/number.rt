@@ -11,11 +11,10 @@ pub fn decimal(word: &[u8]) -> Option<u32>
     }
     let mut n: u32 = 0;
     for b in word {
-        let b = *b;
-        if b < b'0' || b > b'9' {
+        if !b.is_ascii_digit() {
             return None;
         }
-        n = n.saturating_mul(10).saturating_add(u32::from(b - b'0'));
+        n = n.saturating_mul(10).saturating_add(u32::from(*b - b'0'));
     }
     Some(n)
 }

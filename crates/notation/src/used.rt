@@ -2,14 +2,11 @@
 ghost use Rattle.std.specs.Prelude.{◌≡◌, ◌≤◌, true, false, replicate, slice_set};
 ghost use Rattle.notation.specs.Operands.{latest, marked};
 
-use text::Node;
-
-// The most nodes of a text.
-pub const MOST: usize = 512;
+use text::{MOST, Node};
 
 #[derive(Clone, Copy)]
 pub struct Used {
-    flags: [bool; 512],
+    flags: [bool; MOST],
 }
 
 impl Used {
@@ -17,7 +14,7 @@ impl Used {
         ensures value { result.flags ≡ replicate 512 false }
     {
         Used {
-            flags: [false; 512],
+            flags: [false; MOST],
         }
     }
 
@@ -26,18 +23,14 @@ impl Used {
         requires { n ≤ 512 }
         ensures value { result ≡ latest self.now.flags n }
     {
-        for i in (0..n).rev() {
-            if !self.flags[i] {
-                return Some(i as u16);
-            }
-        }
-        None
+        let latest = self.flags[..n].iter().rposition(|used| !*used)?;
+        Some(latest as u16)
     }
 
     fn mark(&mut self, k: u16)
         ensures after { self.new.flags ≡ slice_set self.old.flags k true }
     {
-        let k = k as usize;
+        let k = usize::from(k);
         if k < MOST {
             self.flags[k] = true;
         }

@@ -1,5 +1,4 @@
 pub mod Appends
-pub mod Places
 pub mod Spells
 pub mod Streams
 pub mod Yields

@@ -1,5 +1,5 @@
 -- What a reader's answer says.
-use Rattle.std.specs.Prelude.{ℕ, List, drop, Ok, Err, Result}
+use Rattle.std.specs.Prelude.{ℕ, List, Ok, Err, Result}
 use Rattle.octets.specs.declared.fault.Fault.{Fault}
 use Rattle.octets.specs.declared.cursor.Cursor.{Cursor}
 use Rattle.octets.specs.Faults.{number}
@@ -7,7 +7,7 @@ use Rattle.octets.specs.Parse.{Got, Read, Bad}
 
 -- what a cursor has not read yet
 abbrev pub rest : Cursor → List ℕ
-rest c = drop c.at c.bytes.now
+rest c = c.bytes.now
 
 -- an answer, with what is left to read then
 abbrev pub told : {X : Type 0} → Result X Fault → List ℕ → Got X

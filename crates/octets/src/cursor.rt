@@ -1,8 +1,7 @@
-// A place in a string of bytes, from which numbers are read.
+// What is left to read of a string of bytes.
 mod reads;
 
 #[derive(Drop)]
 pub struct Cursor<'a> {
     bytes: &'a [u8],
-    at: usize,
 }

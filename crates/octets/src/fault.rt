@@ -1,9 +1,11 @@
 // Why something is refused. Every refusal of every crate is one of these.
-ghost use Rattle.std.specs.Prelude.{◌≡◌};
-ghost use Rattle.octets.specs.Faults.{number};
+ghost use Rattle.std.specs.Prelude.{◌≡◌, ◌↔◌, IsNone, Some};
+ghost use Rattle.std.specs.Option.{unwrap_or};
+ghost use Rattle.octets.specs.Faults.{number, cause_of};
 ghost use Rattle.octets.specs.declared.fault.Fault.TheVariants.{Memory};
 
 use std::alloc::{AllocError, AllocFailed};
+use std::fmt;
 
 #[derive(Clone, Copy, Debug, PartialEq, Eq)]
 pub enum Fault {
@@ -34,24 +36,49 @@ pub enum Fault {
 }
 
 impl Fault {
-    // 0 where there is none.
-    pub fn number(self) -> u8
-        ensures value { result ≡ number self }
+    // Want of memory has none.
+    pub fn number(self) -> Option<u8>
+        ensures value { unwrap_or result 0 ≡ number self }
+        ensures none { IsNone result ↔ (self ≡ Memory) }
     {
         match self {
-            Fault::Form => 1,
-            Fault::Range => 2,
-            Fault::Operand => 3,
-            Fault::Port => 4,
-            Fault::Product => 5,
-            Fault::Copies => 6,
-            Fault::Rules => 7,
-            Fault::OtherSwitch => 8,
-            Fault::Busy => 9,
-            Fault::LastVersion => 10,
-            Fault::OtherOrder => 11,
-            Fault::Memory => 0,
+            Fault::Form => Some(1),
+            Fault::Range => Some(2),
+            Fault::Operand => Some(3),
+            Fault::Port => Some(4),
+            Fault::Product => Some(5),
+            Fault::Copies => Some(6),
+            Fault::Rules => Some(7),
+            Fault::OtherSwitch => Some(8),
+            Fault::Busy => Some(9),
+            Fault::LastVersion => Some(10),
+            Fault::OtherOrder => Some(11),
+            Fault::Memory => None,
         }
+    }
+}
+
+// What the number stands for.
+impl fmt::Display for Fault {
+    ghost output = { λ fault. Some (cause_of fault) };
+
+    fn fmt<W: fmt::Write>(&self, f: &mut fmt::Formatter<W>) -> fmt::Result {
+        f.write_str(match self {
+            Fault::Form => "unknown kind, bad length",
+            Fault::Range =>
+                "a field, value, switch, port, hop count or number of nodes out of range; in a change, a switch missing or twice",
+            Fault::Operand => "a node names itself, a later one, or one of the wrong sort",
+            Fault::Port =>
+                "a port on two cables, or on a cable and outside; a cable from a port to itself",
+            Fault::Product => "the product over the fields is above 65,536",
+            Fault::Copies => "more than 16 copies",
+            Fault::Rules => "more than 2,048 rules, or 8,192 in a table on the way",
+            Fault::OtherSwitch => "an order for another switch",
+            Fault::Busy => "change while the desk isn't idle",
+            Fault::LastVersion => "change while the desk's version is 65,535",
+            Fault::OtherOrder => "an answer about an order that isn't the stage's",
+            Fault::Memory => "no memory is left",
+        })
     }
 }
 

@@ -1,3 +1,4 @@
+mod Gathering
 pub mod Once
-mod Order
+pub mod Order
 pub mod Sets

@@ -10,7 +10,7 @@ use Rattle.packet.specs.Policy.{each, some}
 same_is : (p q : Packet) → same_packet p q ≡ true → p ≡ q
 same_is p q h = (bytes_eq-Decides p q).0 h
 
-same_sym : (p q : Packet) → same_packet p q ≡ same_packet q p
+pub same_sym : (p q : Packet) → same_packet p q ≡ same_packet q p
 same_sym p q = same_from_decides _ _ (bytes_eq-Decides p q) (Decides-like _ sym sym (bytes_eq-Decides q p))
 
 same_itself : (p : Packet) → same_packet p p ≡ true

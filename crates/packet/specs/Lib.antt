@@ -1,3 +1,6 @@
+pub mod Copies
+pub mod Listed
 pub mod Packet
+pub mod Pairs
 pub mod Policy
 pub mod Table

@@ -1,5 +1,5 @@
 -- Every plan is good: its texts are in range, and its tables are right for them.
-use Rattle.std.proofs.Common.{◌≡◌, ℕ, zero, suc, ◌<◌, List, [], ◌∷◌, map, length, get_or, vec_items, sym, subst, arith}
+use Rattle.std.proofs.Common.{◌≡◌, ℕ, zero, suc, ◌<◌, List, [], ◌∷◌, map, length, get_or, vec_items, refl, sym, subst, arith}
 use Rattle.std.proofs.lemmas.List.{length-map}
 use Rattle.packet.specs.Policy.{InRange}
 use Rattle.packet.specs.Table.{Right}
@@ -12,7 +12,7 @@ use Rattle.plan.specs.declared.plans.Plan.{Plan}
 use Rattle.plan.specs.Parts.{text_in, rules_in}
 use Rattle.plan.specs.Views.{texts_of, plan_of}
 use Rattle.plan.specs.Laws.{GoodFor}
-use Rattle.plan.proofs.Small.{small_none, small_ranged}
+use Rattle.plan.proofs.Small.{small_ranged}
 
 part_right : (p : Part) → Right (meaning (text_in p)) (rules_in p)
 part_right p =
@@ -20,8 +20,8 @@ part_right p =
     subst (Right (meaning (text_in p))) (sym same) (always_right (meaning (text_in p)))
 
 parts_ranged : (ps : List Part) (i : ℕ) → InRange (meaning (get_or (map text_in ps) i []))
-parts_ranged [] zero = small_ranged [] small_none
-parts_ranged [] (suc i) = small_ranged [] small_none
+parts_ranged [] zero = small_ranged [] refl
+parts_ranged [] (suc i) = small_ranged [] refl
 parts_ranged (p ∷ ps) zero = small_ranged (text_in p) p.small
 parts_ranged (p ∷ ps) (suc i) = parts_ranged ps i
 

@@ -1,9 +1,8 @@
 -- A change has a text for each switch, and is read to its end.
-use Rattle.std.proofs.Common.{◌≡◌, ℕ, zero, suc, eqb, List, [], ◌∷◌, length, replicate, Some, None, Option, Result, sym, refl, ap, ◌∙◌, subst, arith, length-set}
+use Rattle.std.proofs.Common.{◌≡◌, ℕ, zero, suc, List, [], ◌∷◌, length, replicate, Some, None, Option, Result, sym, refl, ap, ◌∙◌, subst, arith, length-set}
 use Rattle.std.proofs.lemmas.List.{length-replicate}
-use Rattle.std.proofs.lemmas.Bool.{eq-eqb}
 use Rattle.octets.specs.declared.fault.Fault.{Fault}
-use Rattle.octets.specs.Parse.{Got, Read, Bad, and_then, check, byte}
+use Rattle.octets.specs.Parse.{Got, Read, Bad, and_then, check, byte, kind}
 use Rattle.octets.proofs.Streams.{never}
 use Rattle.octets.proofs.Yields.{Yields, yields_read, yields_then, yields_any}
 use Rattle.text.specs.declared.node.Node.{Node}
@@ -44,15 +43,13 @@ whole_size (None ∷ slots) ts e = absurd (let z : ◌≡◌ {A = ℕ} 0 1 = cc 
 whole_size (Some ns ∷ slots) ts e = consed_size ns slots ts (whole slots) refl (whole_size slots) e
 
 -- kind and texts were read, and the plan was finished
-pub change_read : {X : Type 0} (f : X → List (List Node)) (r : Result X Fault) (n kind : ℕ) (bs mid q : List ℕ) (slots : Slots) →
-    Read kind mid ≡ byte bs → kind ≡ 66 → Read slots q ≡ texts n (replicate n None) mid → Says f r [] (finished slots []) → Says f r [] (change n bs)
-change_read f r n kind bs mid q slots first right all said =
-    let after : Got Slots → Got (List (List Node)) = λ g. and_then g finished in
+pub change_read : {X : Type 0} (f : X → List (List Node)) (r : Result X Fault) (n k : ℕ) (bs mid q : List ℕ) (slots : Slots) →
+    Read k mid ≡ kind 66 bs → Read slots q ≡ texts n (replicate n None) mid → Says f r [] (finished slots []) → Says f r [] (change n bs)
+change_read f r n k bs mid q slots first all said =
     let ended : q ≡ [] = (texts_size n (replicate n None) mid slots q (sym all)).0 in
     let is : change n bs ≡ finished slots [] =
-    ap (λ g. and_then g (λ k t. and_then (check (eqb k 66) 1 k t) (λ j u. after (texts n (replicate n None) u)))) (sym first)
-    ∙ ap (λ b. and_then (check b 1 kind mid) (λ j u. after (texts n (replicate n None) u))) (eq-eqb kind 66 right)
-    ∙ ap after (sym all) ∙ ap (finished slots) ended in
+    ap (λ g. and_then g (λ j t. and_then (texts n (replicate n None) t) finished)) (sym first)
+    ∙ ap (λ g. and_then g finished) (sym all) ∙ ap (finished slots) ended in
     subst (Says f r []) (sym is) said
 
 pub change_size : (n : ℕ) (mid q : List ℕ) (slots : Slots) → Read slots q ≡ texts n (replicate n None) mid → length slots ≡ n

@@ -1,24 +1,11 @@
 -- Values of 16 bits: of each node in turn, and of the policy that the nodes mean.
-use Rattle.std.proofs.Common.{◌≡◌, ℕ, zero, suc, ◌+◌, ◌-◌, ◌<◌, true, List, [], ◌∷◌, ◌++◌, length, get_or, take, refl, ap, ◌∙◌}
-use Rattle.std.proofs.lemmas.List.{take_more}
-use Rattle.std.proofs.lemmas.Bool.{and_parts, and_from, ltb-true}
+use Rattle.std.proofs.Common.{◌≡◌, ℕ, zero, suc, ◌-◌, true, List, [], ◌∷◌, ◌++◌, length}
+use Rattle.std.proofs.lemmas.Bool.{and_parts, ltb-true}
 use Rattle.packet.specs.Policy.{InRange}
 use Rattle.text.specs.declared.node.Node.{Node}
 use Rattle.text.specs.declared.node.Node.TheVariants.{Always, Is, Both, Either, Not, Keep, Put, And, Then}
 use Rattle.text.specs.Trees.{Tree, as_policy, policy_at, tree_of, build, meaning}
 use Rattle.plan.specs.Values.{small, all_small}
-
-small_push : (ns : List Node) (n : Node) → all_small ns ≡ true → small n ≡ true → all_small (ns ++ n ∷ []) ≡ true
-unfolding all_small
-small_push [] n h one = and_from (small n) true one refl
-small_push (m ∷ ns) n h one = let p = and_parts (small m) (all_small ns) h in and_from _ _ p.0 (small_push ns n p.1 one)
-
-pub small_none : all_small [] ≡ true
-unfolding all_small
-small_none = refl
-
-pub small_more : (ns : List Node) (i : ℕ) → i < length ns → all_small (take i ns) ≡ true → small (get_or ns i Always) ≡ true → all_small (take (i + 1) ns) ≡ true
-small_more ns i lt h one = ap all_small (take_more ns i Always lt) ∙ small_push (take i ns) (get_or ns i Always) h one
 
 -- every tree that is a policy puts only such values
 Ranged : List Tree → Type 0
@@ -50,7 +37,7 @@ tree_ranged done (And a b) h one = (h a, h b)
 tree_ranged done (Then a b) h one = (h a, h b)
 
 build_ranged : (done : List Tree) (ns : List Node) → Ranged done → all_small ns ≡ true → Ranged (build done ns)
-unfolding build all_small
+unfolding build
 build_ranged done [] h all = h
 build_ranged done (n ∷ ns) h all =
     let p = and_parts (small n) (all_small ns) all in

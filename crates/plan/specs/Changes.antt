@@ -2,8 +2,8 @@
 --   texts k slots bs    where k switches still lack a text
 --   change n bs         the texts of n switches, or the number of the first fault
 --   change_bytes ts      a change that brings these texts, in the order of the switches
-use Rattle.std.specs.Prelude.{ℕ, zero, suc, List, [], ◌∷◌, ◌++◌, replicate, None, ◌==◌}
-use Rattle.octets.specs.Parse.{Got, Read, Bad, and_then, check, byte}
+use Rattle.std.specs.Prelude.{ℕ, zero, suc, List, [], ◌∷◌, ◌++◌, replicate, None}
+use Rattle.octets.specs.Parse.{Got, Read, Bad, and_then, byte, kind}
 use Rattle.text.specs.declared.node.Node.{Node}
 use Rattle.text.specs.Format.{listed, text_bytes}
 use Rattle.plan.specs.Slots.{Slots, line, finished}
@@ -22,9 +22,8 @@ texts (suc k) slots bs = at_end bs (Read slots bs) (and_then (text slots bs) (te
 
 abbrev pub change : ℕ → List ℕ → Got (List (List Node))
 change n bs =
-    and_then (byte bs) (λ k r.
-    and_then (check (k == 66) 1 k r) (λ j q.
-    and_then (texts n (replicate n None) q) finished))
+    and_then (kind 66 bs) (λ k r.
+    and_then (texts n (replicate n None) r) finished)
 
 -- of the switches from i on
 abbrev pub texts_bytes : ℕ → List (List Node) → List ℕ

@@ -1,5 +1,6 @@
 -- Texts whose values a field can have.
-use Rattle.std.specs.Prelude.{Bool, true, ◌&&◌, List, [], ◌∷◌, nat_lt}
+use Rattle.std.specs.Prelude.{Bool, true, List, nat_lt}
+use Rattle.std.specs.List.{list_all}
 use Rattle.text.specs.declared.node.Node.{Node}
 use Rattle.text.specs.declared.node.Node.TheVariants.{Always, Is, Both, Either, Not, Keep, Put, And, Then}
 
@@ -15,6 +16,5 @@ small (Put f x) = nat_lt x 65536
 small (And a b) = true
 small (Then a b) = true
 
-unfoldable pub all_small : List Node → Bool
-all_small [] = true
-all_small (n ∷ ns) = small n && all_small ns
+abbrev pub all_small : List Node → Bool
+all_small ns = list_all small ns

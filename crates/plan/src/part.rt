@@ -10,6 +10,9 @@ ghost use Rattle.plan.specs.Values.{all_small};
 use text::Text;
 
 mod calls;
+mod scratch;
+
+pub(crate) use scratch::Scratch;
 
 #[derive(Drop)]
 pub struct Part {

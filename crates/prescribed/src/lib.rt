@@ -6,29 +6,21 @@ ghost use Rattle.prescribed.specs.Fit as fits;
 ghost use Rattle.prescribed.specs.Right as rights;
 
 // Packets that meet the same tests are treated alike.
-pub fn packets_are_treated_alike() -> u8
+pub fn packets_are_treated_alike()
     ensures alike { alikes.TreatedAlike }
-{
-    0
-}
+{}
 
 // The table of a policy gives every packet the copies that the policy gives it.
-pub fn table_is_right() -> u8
+pub fn table_is_right()
     ensures right { rights.AlwaysRight }
-{
-    0
-}
+{}
 
 // Different outs of a leaf give different copies.
-pub fn outs_differ() -> u8
+pub fn outs_differ()
     ensures differ { rights.OutsDiffer }
-{
-    0
-}
+{}
 
 // The product that a policy is measured by is the number of leaves, and bounds the number of rules.
-pub fn product_counts() -> u8
+pub fn product_counts()
     ensures counts { fits.ProductCounts }
-{
-    0
-}
+{}

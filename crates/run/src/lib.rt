@@ -9,57 +9,41 @@ ghost use Rattle.run.specs.Past.{PastIsTold};
 ghost use Rattle.run.specs.Rehearsal.{Rehearsal};
 
 // Every packet goes by one plan, the one in force where and when it came in, and no copy of it is left out.
-pub fn promise_stands() -> u8
+pub fn promise_stands()
     ensures promise { Promise }
-{
-    0
-}
+{}
 
 // While a change is under way, what switches hold and what is on cables fits the desk's stage.
-pub fn on_the_way_stands() -> u8
+pub fn on_the_way_stands()
     ensures way { OnTheWay }
-{
-    0
-}
+{}
 
 // A change that is under way ends, if what is given, sent or put on again and again comes in at some time.
-pub fn change_ends() -> u8
+pub fn change_ends()
     ensures ends { Ends }
-{
-    0
-}
+{}
 
 // At any time a change that is under way can still be ended, with nothing lost.
-pub fn change_can_end() -> u8
+pub fn change_can_end()
     ensures ends { CanEnd }
-{
-    0
-}
+{}
 
 // Without losses all that its plan says of a packet leaves at some time, through any number of changes.
-pub fn all_leave() -> u8
+pub fn all_leave()
     ensures leave { AllLeave }
-{
-    0
-}
+{}
 
 // What has been ordered and answered follows from the desk's versions and stage, and a switch has a place for each table that it is to take in.
-pub fn past_is_told() -> u8
+pub fn past_is_told()
     ensures past { PastIsTold }
-{
-    0
-}
+{}
 
 // The promise holds over any list of calls to a net, in words of the calls and of what is told of them.
-pub fn rehearsal_stands() -> u8
+pub fn rehearsal_stands()
     ensures rehearsal { Rehearsal }
-{
-    0
-}
+{}
 
 // The worked cases hold, row by row.
-pub fn cases_stand() -> u8
+pub fn cases_stand()
     ensures rows { CasesHold }
-{
-    0
-}
+{}

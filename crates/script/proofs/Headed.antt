@@ -1,15 +1,14 @@
 -- One line of a header more.
-use Rattle.std.proofs.Common.{◌≡◌, ℕ, ◌+◌, ◌<◌, ◌⊎◌, List, [], ◌∷◌, ◌++◌, map, length, Some, None, Err, ap, ◌∙◌, inl, inr}
+use Rattle.std.proofs.Common.{◌≡◌, ℕ, ◌+◌, ◌⊎◌, List, [], ◌∷◌, ◌++◌, map, Some, None, Err, sym, ap, ◌∙◌, inl, inr}
 use Rattle.std.proofs.lemmas.List.{map_push}
 use Rattle.octets.specs.declared.fault.Fault.{Fault}
 use Rattle.octets.specs.declared.fault.Fault.TheVariants.{Memory}
 use Rattle.octets.specs.Faults.{number}
 use Rattle.notation.specs.declared.reader.Refusal.{Refusal}
 use Rattle.notation.specs.declared.marks.Mark.TheVariants.{Newline}
-use Rattle.notation.specs.Marks.{before, behind, parts}
+use Rattle.notation.specs.Marks.{parts}
 use Rattle.notation.specs.Words.{Word}
 use Rattle.notation.specs.Reading.{Got, Read, Bad, and_then}
-use Rattle.notation.proofs.Turns.{parts_at, no_parts}
 use Rattle.wire.specs.Layouts.{Layout}
 use Rattle.script.specs.declared.line.TextLine.{TextLine}
 use Rattle.script.specs.declared.header.Placed as declared
@@ -28,26 +27,23 @@ text_more k x old more t bs ws e f =
     ∙ ap (λ l. Read (On, record { layout = x; texts = l }) []) (map_push placed_of old (record { line = k; text = t }))
     ∙ ap (λ g. and_then g (λ u r. Read (On, with_text (at x old) k u) r)) e
 
--- the bytes bs begin with the line l, and rest is what follows it
-module _ (k : ℕ) (s : Sofar) (bs l rest : List ℕ) (some : 0 < length bs) (front : l ≡ before Newline bs) (back : rest ≡ behind Newline bs) where
-  pub line_more : (t : Sofar) → Read (On, t) [] ≡ line_in (k + 1) s l → describing (k + 1) t (parts Newline rest) ≡ describing k s (parts Newline bs)
-  unfolding describing
-  line_more t e =
-      ap (λ g. goes_on (k + 1) (parts Newline rest) g (λ u. describing (k + 1) u (parts Newline rest))) e ∙ ap (describing k s) (parts_at Newline bs l rest some front back)
-
-  pub line_starts : (t : Sofar) → Read (Begun, t) [] ≡ line_in (k + 1) s l → started_at t (k + 1) rest ≡ describing k s (parts Newline bs)
-  unfolding describing
-  line_starts t e =
-      ap (λ g. goes_on (k + 1) (parts Newline rest) g (λ u. describing (k + 1) u (parts Newline rest))) e ∙ ap (describing k s) (parts_at Newline bs l rest some front back)
-
-  pub line_stops : (n : ℕ) → Bad n ≡ line_in (k + 1) s l → Refused n (Some (k + 1)) ≡ describing k s (parts Newline bs)
-  unfolding describing
-  line_stops n e =
-      ap (λ g. goes_on (k + 1) (parts Newline rest) g (λ u. describing (k + 1) u (parts Newline rest))) e ∙ ap (describing k s) (parts_at Newline bs l rest some front back)
-
-pub lines_end : (k : ℕ) (s : Sofar) (bs : List ℕ) → length bs ≡ 0 → Unfinished ≡ describing k s (parts Newline bs)
+-- a line more
+pub line_more : (k : ℕ) (s t : Sofar) (all rest : List (List ℕ)) (l : List ℕ) → all ≡ l ∷ rest → Read (On, t) [] ≡ line_in (k + 1) s l → describing (k + 1) t rest ≡ describing k s all
 unfolding describing
-lines_end k s bs h = ap (describing k s) (no_parts Newline bs h)
+line_more k s t all rest l is e = ap (λ g. goes_on (k + 1) rest g (λ u. describing (k + 1) u rest)) e ∙ ap (describing k s) (sym is)
+
+pub line_starts : (k : ℕ) (s t : Sofar) (all : List (List ℕ)) (l rest : List ℕ) → all ≡ l ∷ parts Newline rest → Read (Begun, t) [] ≡ line_in (k + 1) s l → started_at t (k + 1) rest ≡ describing k s all
+unfolding describing
+line_starts k s t all l rest is e =
+    ap (λ g. goes_on (k + 1) (parts Newline rest) g (λ u. describing (k + 1) u (parts Newline rest))) e ∙ ap (describing k s) (sym is)
+
+pub line_stops : (k : ℕ) (s : Sofar) (n : ℕ) (all rest : List (List ℕ)) (l : List ℕ) → all ≡ l ∷ rest → Bad n ≡ line_in (k + 1) s l → Refused n (Some (k + 1)) ≡ describing k s all
+unfolding describing
+line_stops k s n all rest l is e = ap (λ g. goes_on (k + 1) rest g (λ u. describing (k + 1) u rest)) e ∙ ap (describing k s) (sym is)
+
+pub lines_end : (k : ℕ) (s : Sofar) (all : List (List ℕ)) → all ≡ [] → Unfinished ≡ describing k s all
+unfolding describing
+lines_end k s all is = ap (describing k s) (sym is)
 
 -- no text yet
 pub none_yet : (k : ℕ) (x : Layout) (ps : List declared.Placed) (ls : List (List ℕ)) → ps ≡ [] → describing k (at x ps) ls ≡ describing k (opened x) ls
@@ -60,22 +56,18 @@ stopped e f k g o is (inl m) h = inl (ap (λ r. r.fault) is ∙ m)
 stopped e f k g o is (inr b) h = inr (ap (λ r. Refused (number r.fault) r.line) is ∙ h b)
 
 -- before `net`
-module _ (k : ℕ) (bs l rest : List ℕ) (some : 0 < length bs) (front : l ≡ before Newline bs) (back : rest ≡ behind Newline bs) where
-  pub first_more : Read None [] ≡ first_in l → opening (k + 1) (parts Newline rest) ≡ opening k (parts Newline bs)
-  unfolding opening
-  first_more e =
-      ap (λ g. opens (k + 1) (parts Newline rest) g (opening (k + 1) (parts Newline rest))) e ∙ ap (opening k) (parts_at Newline bs l rest some front back)
-
-  pub first_net : (x : Layout) → Read (Some x) [] ≡ first_in l → describing (k + 1) (opened x) (parts Newline rest) ≡ opening k (parts Newline bs)
-  unfolding opening
-  first_net x e =
-      ap (λ g. opens (k + 1) (parts Newline rest) g (opening (k + 1) (parts Newline rest))) e ∙ ap (opening k) (parts_at Newline bs l rest some front back)
-
-  pub first_stops : (n : ℕ) → Bad n ≡ first_in l → Refused n (Some (k + 1)) ≡ opening k (parts Newline bs)
-  unfolding opening
-  first_stops n e =
-      ap (λ g. opens (k + 1) (parts Newline rest) g (opening (k + 1) (parts Newline rest))) e ∙ ap (opening k) (parts_at Newline bs l rest some front back)
-
-pub first_end : (k : ℕ) (bs : List ℕ) → length bs ≡ 0 → Unfinished ≡ opening k (parts Newline bs)
+pub first_more : (k : ℕ) (all rest : List (List ℕ)) (l : List ℕ) → all ≡ l ∷ rest → Read None [] ≡ first_in l → opening (k + 1) rest ≡ opening k all
 unfolding opening
-first_end k bs h = ap (opening k) (no_parts Newline bs h)
+first_more k all rest l is e = ap (λ g. opens (k + 1) rest g (opening (k + 1) rest)) e ∙ ap (opening k) (sym is)
+
+pub first_net : (k : ℕ) (x : Layout) (all rest : List (List ℕ)) (l : List ℕ) → all ≡ l ∷ rest → Read (Some x) [] ≡ first_in l → describing (k + 1) (opened x) rest ≡ opening k all
+unfolding opening
+first_net k x all rest l is e = ap (λ g. opens (k + 1) rest g (opening (k + 1) rest)) e ∙ ap (opening k) (sym is)
+
+pub first_stops : (k n : ℕ) (all rest : List (List ℕ)) (l : List ℕ) → all ≡ l ∷ rest → Bad n ≡ first_in l → Refused n (Some (k + 1)) ≡ opening k all
+unfolding opening
+first_stops k n all rest l is e = ap (λ g. opens (k + 1) rest g (opening (k + 1) rest)) e ∙ ap (opening k) (sym is)
+
+pub first_end : (k : ℕ) (all : List (List ℕ)) → all ≡ [] → Unfinished ≡ opening k all
+unfolding opening
+first_end k all is = ap (opening k) (sym is)

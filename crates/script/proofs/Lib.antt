@@ -1,7 +1,6 @@
-mod Fielded
-mod Telling
 mod Hex
 mod Growing
 mod Taken
 mod Headed
 mod Examples
+mod Numbered

@@ -2,7 +2,7 @@
 use Rattle.std.specs.Prelude.{ℕ, List, [], ◌∷◌, ◌++◌, codes, decimal}
 use Rattle.std.specs.List.{flat_map}
 use Rattle.octets.specs.Faults.{number}
-use Rattle.packet.specs.declared.Packet.{Packet}
+use Rattle.packet.specs.declared.packets.Packet.{Packet}
 use Rattle.wire.specs.declared.frame.Frame.{Frame}
 use Rattle.wire.specs.declared.mark.Mark.{Mark}
 use Rattle.script.specs.declared.event.Stage.{Stage}

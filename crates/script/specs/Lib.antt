@@ -4,6 +4,7 @@ pub mod Steps
 pub mod Lines
 pub mod Readers
 pub mod Headers
+pub mod Keeping
 pub mod Described
 pub mod Headings
 pub mod Scripts

@@ -3,6 +3,8 @@ use Rattle.std.specs.Prelude.{◌≡◌, ◌⊎◌, List, Some, None, Ok, Err, O
 use Rattle.octets.specs.declared.fault.Fault.{Fault}
 use Rattle.octets.specs.declared.fault.Fault.TheVariants.{Form, Memory}
 use Rattle.octets.specs.Faults.{number}
+use Rattle.hex.specs.declared.error.FromHexError.{FromHexError}
+use Rattle.hex.specs.declared.error.FromHexError.TheVariants.{InvalidHexCharacter, OddLength, InvalidStringLength, OutOfMemory}
 use Rattle.notation.specs.Words.{Word}
 use Rattle.notation.specs.Reading.{Got, Read, Bad}
 
@@ -20,3 +22,10 @@ Says f (Err e) ws g = (e ≡ Memory) ⊎ (Bad (number e) ≡ g)
 abbrev pub told_as : {X Y : Type 0} → (X → Y) → Result X Fault → List Word → Got Y
 told_as f (Ok x) ws = Read (f x) ws
 told_as f (Err e) ws = Bad (number e)
+
+-- why digits write no bytes
+abbrev pub fault_of : FromHexError → Fault
+fault_of OutOfMemory = Memory
+fault_of (InvalidHexCharacter c i) = Form
+fault_of OddLength = Form
+fault_of InvalidStringLength = Form

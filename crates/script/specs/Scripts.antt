@@ -10,7 +10,7 @@ use Rattle.notation.specs.Marks.{before, parts}
 use Rattle.notation.specs.Kinds.{same_word}
 use Rattle.notation.specs.Words.{Word, words_of}
 use Rattle.notation.specs.Reading.{Got, Read, Bad, and_then, ended}
-use Rattle.wire.specs.Numbers.{alone}
+use Rattle.octets.specs.Parse.{alone}
 use Rattle.wire.specs.Layouts.{Layout, layout}
 use Rattle.script.specs.declared.header.headings.Heading.{Heading}
 use Rattle.script.specs.declared.header.headings.Heading.TheVariants as heading
@@ -23,7 +23,7 @@ use Rattle.script.specs.declared.header.Header.{Header}
 use Rattle.script.specs.Lines.{Text, text_of, text_in, after_word}
 use Rattle.script.specs.Headings.{heading_of}
 use Rattle.script.specs.Headers.{net, cable, outside}
-use Rattle.script.specs.Described.{layout_of, KeptIn}
+use Rattle.script.specs.Described.{layout_of}
 
 -- a text, and its line
 pub record Placed : Type 0 where
@@ -108,13 +108,13 @@ abbrev pub sofar_of : Draft → Sofar
 sofar_of d = record { layout = layout_of d.description; texts = map placed_of (vec_items d.texts) }
 
 abbrev pub Goes : Result Went Fault → Draft → Got (Went × Sofar) → Type 0
-Goes (Ok w) d g = KeptIn d.description × (Read (w, sofar_of d) [] ≡ g)
+Goes (Ok w) d g = Read (w, sofar_of d) [] ≡ g
 Goes (Err e) d g = (e ≡ Memory) ⊎ (Bad (number e) ≡ g)
 
 -- a line before `net`
 abbrev pub Opened : Result (Option Description) Fault → Got (Option Layout) → Type 0
 Opened (Ok None) g = Read None [] ≡ g
-Opened (Ok (Some d)) g = KeptIn d × (Read (Some (layout_of d)) [] ≡ g)
+Opened (Ok (Some d)) g = Read (Some (layout_of d)) [] ≡ g
 Opened (Err e) g = Bad (number e) ≡ g
 
 -- the bytes of the list of cables, as they read

@@ -9,8 +9,8 @@ use Rattle.script.specs.declared.step.Step as declared
 use Rattle.script.specs.declared.step.Step.TheVariants as step
 use Rattle.script.specs.declared.step.verbs.Verb.{Verb}
 use Rattle.script.specs.declared.step.verbs.Verb.TheVariants as verb
-use Rattle.script.specs.declared.step.verbs.OrderKind.{OrderKind}
-use Rattle.script.specs.declared.step.verbs.OrderKind.TheVariants as kind
+use Rattle.wire.specs.declared.order.Kind.{Kind}
+use Rattle.wire.specs.declared.order.Kind.TheVariants as kind
 use Rattle.script.specs.declared.step.verbs.Target.{Target}
 use Rattle.script.specs.declared.step.verbs.Target.TheVariants as target
 use Rattle.script.specs.Verbs.{order_kind_of, target_of}
@@ -62,7 +62,7 @@ called reads [] = Bad 1
 called reads (w ∷ ws) = or_bad (reads w) ws
 
 -- an order: its word, its version, and for a round its round
-abbrev pub of_order : OrderKind → List Word → Got Named
+abbrev pub of_order : Kind → List Word → Got Named
 of_order kind.Install ws = and_then (typed ws) (λ v r. Read (named.Install v) r)
 of_order kind.Stamp ws = and_then (typed ws) (λ v r. Read (named.Stamp v) r)
 of_order kind.Round ws = pair named.Round ws

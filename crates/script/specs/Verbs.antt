@@ -3,8 +3,8 @@ use Rattle.std.specs.Prelude.{ℕ, cond, List, Some, None, codes, Option}
 use Rattle.notation.specs.Kinds.{same_word}
 use Rattle.script.specs.declared.step.verbs.Verb.{Verb}
 use Rattle.script.specs.declared.step.verbs.Verb.TheVariants.{Change, Enter, Arrive, Lose, Order, Answer, Raw, Show}
-use Rattle.script.specs.declared.step.verbs.OrderKind.{OrderKind}
-use Rattle.script.specs.declared.step.verbs.OrderKind.TheVariants.{Install, Stamp, Round, Remove}
+use Rattle.wire.specs.declared.order.Kind.{Kind}
+use Rattle.wire.specs.declared.order.Kind.TheVariants.{Install, Stamp, Round, Remove}
 use Rattle.script.specs.declared.step.verbs.Target.{Target}
 use Rattle.script.specs.declared.step.verbs.Target.TheVariants.{Switch, Desk}
 
@@ -18,7 +18,7 @@ verb_word Answer = codes "answer"
 verb_word Raw = codes "raw"
 verb_word Show = codes "show"
 
-abbrev pub order_word : OrderKind → List ℕ
+abbrev pub order_word : Kind → List ℕ
 order_word Install = codes "install"
 order_word Stamp = codes "stamp"
 order_word Round = codes "round"
@@ -43,7 +43,7 @@ verb_of w =
     (or_else verb_word w Raw
     (or_else verb_word w Show None)))))))
 
-abbrev pub order_kind_of : List ℕ → Option OrderKind
+abbrev pub order_kind_of : List ℕ → Option Kind
 order_kind_of w =
     or_else order_word w Install
     (or_else order_word w Stamp

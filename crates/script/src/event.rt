@@ -6,7 +6,7 @@ use wire::{Frame, Mark};
 mod lines;
 
 // A stage that the desk enters, with the version that it is about; a round is flushed for a version.
-#[derive(Clone, Copy)]
+#[derive(Clone, Copy, Debug, PartialEq, Eq)]
 pub enum Stage {
     Installing(u16),
     Stamping(u16),
@@ -16,14 +16,14 @@ pub enum Stage {
 }
 
 // The versions whose tables a switch holds, in rising order.
-#[derive(Clone, Copy)]
+#[derive(Clone, Copy, Debug, PartialEq, Eq)]
 pub enum Held {
     None,
     One(u16),
     Two(u16, u16),
 }
 
-#[derive(Clone, Copy)]
+#[derive(Clone, Copy, Debug, PartialEq, Eq)]
 pub enum Event {
     // A packet that came in as `first` at switch `from` left as `last` at switch `at`.
     Left {

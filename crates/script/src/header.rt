@@ -4,12 +4,13 @@ use crate::line::TextLine;
 mod description;
 mod draft;
 mod headings;
+mod lines;
 mod reads;
 
 pub use reads::read;
 
 // A text, and its line in the script.
-#[derive(Clone, Copy)]
+#[derive(Clone, Copy, Debug, PartialEq, Eq)]
 pub struct Placed<'a> {
     pub line: usize,
     pub text: TextLine<'a>,

@@ -1,8 +1,6 @@
 // Examples of lines and headers.
 ghost use Rattle.script.specs.Examples.{Examples};
 
-pub fn examples_stand() -> u8
+pub fn examples_stand()
     ensures examples { Examples }
-{
-    0
-}
+{}

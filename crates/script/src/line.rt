@@ -7,7 +7,7 @@ pub use reads::read;
 pub(crate) use reads::text;
 
 // A text for a switch, as it was typed. Its nodes are yet to be read.
-#[derive(Clone, Copy)]
+#[derive(Clone, Copy, Debug, PartialEq, Eq)]
 pub struct TextLine<'a> {
     pub switch: u32,
     pub nodes: &'a [u8],

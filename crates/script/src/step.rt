@@ -6,7 +6,7 @@ pub(crate) use reads::read;
 pub(crate) use verbs::Verb;
 
 // An order as a line names it: of a version, and a round of one.
-#[derive(Clone, Copy)]
+#[derive(Clone, Copy, Debug, PartialEq, Eq)]
 pub enum Named {
     Install(u32),
     Stamp(u32),

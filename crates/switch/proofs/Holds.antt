@@ -1,94 +1,88 @@
 -- Which versions are held, and in which places.
-use Rattle.std.proofs.Common.{◌≡◌, ℕ, zero, suc, ◌+◌, ◌<◌, Bool, true, false, cond, not, ◌&&◌, ◌||◌, eqb, ltb, List, [], ◌∷◌, ◌++◌, length, get_or, take, set, Some, None, filter, sym, refl, ap, ◌∙◌, arith, lt-ltb, eq-eqb, ne_eqb}
-use Rattle.std.proofs.lemmas.List.{take_more_set, map_push}
+use Rattle.std.proofs.Common.{◌≡◌, ℕ, ◌<◌, ◌≤◌, Bool, true, false, cond, not, ◌&&◌, ◌||◌, eqb, leb, IfSome, MatchOption, List, [], ◌∷◌, ◌++◌, length, Some, None, Option, is_some, sym, refl, ap, ◌∙◌, subst, arith}
+use Rattle.std.specs.List.{find}
+use Rattle.std.specs.Option.{option_map}
 use Rattle.packet.specs.Table.{Table}
 use Rattle.run.specs.At.{at}
-use Rattle.run.specs.Switch.{knows, table_of, without, gone}
-use Rattle.switch.specs.declared.versions.held.Held.{Held}
-use Rattle.switch.specs.Holding.{Places, one_of, all_of, placed, used, others, Found}
+use Rattle.run.specs.Switch as run
+use Rattle.run.specs.Switch.{knows, table_of, install, with_held}
+use Rattle.switch.specs.declared.Switch.{Switch}
+use Rattle.switch.specs.declared.versions.Versions.{Versions}
+use Rattle.switch.specs.declared.versions.Held.{Held}
+use Rattle.switch.specs.Holding.{Places, all_of, placed, used, slots}
+use Rattle.switch.specs.Marking.{latest_of}
+use Rattle.switch.specs.Model.{Added, Lies, held_of, one, switch_of}
 
-abbrev pub no_held : Held
-no_held = record { version = 0; place = 0 }
+abbrev pub found : ℕ → List Held → Option Held
+found v xs = find (λ (x : Held). eqb x.version v) xs
 
-and_left : (a b : Bool) → (a && b) ≡ true → a ≡ true
-and_left true b e = refl
-and_left false b e = e
+abbrev pub place_in : Option Held → Option ℕ
+place_in o = option_map (λ (x : Held). x.place) o
 
-and_right : (a b : Bool) → (a && b) ≡ true → b ≡ true
-and_right true b e = e
-and_right false b e = absurd (let z : ◌≡◌ {A = ℕ} 0 1 = cc in omega arith)
+-- a version of another number in front
+past : (v : ℕ) (x : Held) (xs : List Held) (tables : Places) (o : Option Held) → eqb v x.version ≡ false → Lies v (all_of tables xs) tables (place_in o) → Lies v (all_of tables (x ∷ xs)) tables (place_in o)
+unfolding knows table_of
+past v x xs tables None e h = ap (λ b. b || knows v (all_of tables xs)) e ∙ h
+past v x xs tables (Some y) e h = (ap (λ b. b || knows v (all_of tables xs)) e ∙ h.0, ap (λ b. cond b (tables x.place) (table_of v (all_of tables xs))) e ∙ h.1)
 
-or_true : (b : Bool) → (b || true) ≡ true
-or_true true = refl
-or_true false = refl
+first : (v : ℕ) (x : Held) (xs : List Held) (tables : Places) (b : Bool) → eqb x.version v ≡ b → Lies v (all_of tables xs) tables (place_in (found v xs)) → Lies v (all_of tables (x ∷ xs)) tables (place_in (cond b (Some x) (found v xs)))
+unfolding knows table_of
+first v x xs tables true e h = let q : eqb v x.version ≡ true = grind arith in (ap (λ b. b || knows v (all_of tables xs)) q, ap (λ b. cond b (tables x.place) (table_of v (all_of tables xs))) q)
+first v x xs tables false e h = let q : eqb v x.version ≡ false = grind arith in past v x xs tables (found v xs) q h
 
-pub found_at : (v : ℕ) (xs : List Held) (i : ℕ) → i < length xs → ((k : ℕ) → k < i → (get_or xs k no_held).version ≡ v → ⊥) → (get_or xs i no_held).version ≡ v → Found v xs (Some (get_or xs i no_held).place)
-unfolding knows table_of placed
-found_at v [] i h below e = absurd (omega arith)
-found_at v (x ∷ xs) zero h below e =
-    let q = eq-eqb v x.version (sym e) in
-    (λ p. and_left _ _ p, λ tables. (ap (λ b. b || knows v (all_of tables xs)) q, ap (λ b. cond b (tables x.place) (table_of v (all_of tables xs))) q))
-found_at v (x ∷ xs) (suc i) h below e =
-    let q = ne_eqb v x.version (λ s. below 0 (omega arith) (sym s)) in
-    let r = found_at v xs i (omega arith) (λ k l. below (suc k) (omega arith)) e in
-    (λ p. r.0 (and_right _ _ p), λ tables. (ap (λ b. b || knows v (all_of tables xs)) q ∙ (r.1 tables).0, ap (λ b. cond b (tables x.place) (table_of v (all_of tables xs))) q ∙ (r.1 tables).1))
-
-pub not_found : (v : ℕ) (xs : List Held) → ((k : ℕ) → k < length xs → (get_or xs k no_held).version ≡ v → ⊥) → Found v xs None
+lies_in : (v : ℕ) (xs : List Held) (tables : Places) → Lies v (all_of tables xs) tables (place_in (found v xs))
 unfolding knows
-not_found v [] none = λ tables. refl
-not_found v (x ∷ xs) none = λ tables. ap (λ b. b || knows v (all_of tables xs)) (ne_eqb v x.version (λ s. none 0 (omega arith) (sym s))) ∙ not_found v xs (λ k l. none (suc k) (omega arith)) tables
+lies_in v [] tables = refl
+lies_in v (x ∷ xs) tables = first v x xs tables (eqb x.version v) refl (lies_in v xs tables)
 
-pub used_at : (p : ℕ) (xs : List Held) (i : ℕ) → i < length xs → (get_or xs i no_held).place ≡ p → used p xs ≡ true
-unfolding used
-used_at p [] i h e = absurd (omega arith)
-used_at p (x ∷ xs) zero h e = ap (λ b. b || used p xs) (eq-eqb x.place p e)
-used_at p (x ∷ xs) (suc i) h e = ap (λ b. eqb x.place p || b) (used_at p xs i (omega arith) e) ∙ or_true (eqb x.place p)
+-- o is the place of what was found
+pub lies_found : (v : ℕ) (xs : List Held) (o : Option ℕ) → o ≡ place_in (found v xs) → (tables : Places) → Lies v (all_of tables xs) tables o
+lies_found v xs o e tables = subst (Lies v (all_of tables xs) tables) (sym e) (lies_in v xs tables)
 
-pub not_used : (p : ℕ) (xs : List Held) → ((k : ℕ) → k < length xs → (get_or xs k no_held).place ≡ p → ⊥) → used p xs ≡ false
-unfolding used
-not_used p [] none = refl
-not_used p (x ∷ xs) none = ap (λ b. b || used p xs) (ne_eqb x.place p (none 0 (omega arith))) ∙ not_used p xs (λ k l. none (suc k) (omega arith))
+-- a version is there where it has a place
+known_by_place : (v : ℕ) (xs : List Held) (tables : Places) (o : Option Held) → Lies v (all_of tables xs) tables (place_in o) → is_some o ≡ knows v (all_of tables xs)
+known_by_place v xs tables None h = sym h
+known_by_place v xs tables (Some p) h = sym h.0
 
-pub placed_more : (xs : List Held) (x : Held) → placed xs ≡ true → x.place < 2 → placed (xs ++ x ∷ []) ≡ true
-unfolding placed
-placed_more [] x e h = ap (λ b. b && true) (lt-ltb x.place 2 h)
-placed_more (y ∷ ys) x e h = ap (λ b. b && placed (ys ++ x ∷ [])) (and_left (ltb y.place 2) (placed ys) e) ∙ placed_more ys x (and_right (ltb y.place 2) (placed ys) e) h
+pub known_found : (v : ℕ) (xs : List Held) (tables : Places) → is_some (found v xs) ≡ knows v (all_of tables xs)
+known_found v xs tables = known_by_place v xs tables (found v xs) (lies_in v xs tables)
 
-pub placed_kept : (keep : Held → Bool) (xs : List Held) → placed xs ≡ true → placed (filter keep xs) ≡ true
-unfolding placed
-placed_kept keep [] e = refl
-placed_kept keep (x ∷ xs) e =
-    let r = placed_kept keep xs (and_right (ltb x.place 2) (placed xs) e) in
-    elim (keep x) as (λ b. placed (cond b (x ∷ filter keep xs) (filter keep xs)) ≡ true) [
-      | true ↦ ap (λ b. b && placed (filter keep xs)) (and_left (ltb x.place 2) (placed xs) e) ∙ r
-      | false ↦ r
-    ]
+-- each place is there
+here : (x : Held) (b : Bool) (o : Option Held) → x.place < slots → IfSome (place_in o) (λ p. p < slots) → IfSome (place_in (cond b (Some x) o)) (λ p. p < slots)
+here x true o h more = h
+here x false o h more = more
 
-or_none : (a b : Bool) → (a || b) ≡ false → (a ≡ false) × (b ≡ false)
-or_none true b e = absurd (let z : ◌≡◌ {A = ℕ} 0 1 = cc in omega arith)
-or_none false b e = (refl, e)
+placed_in : (v : ℕ) (xs : List Held) → placed xs ≡ true → IfSome (place_in (found v xs)) (λ p. p < slots)
+placed_in v [] h = tt
+placed_in v (x ∷ xs) h =
+    let first : x.place < slots = grind (arith, h) in
+    let rest : placed xs ≡ true = grind (arith, h) in
+    here x (eqb x.version v) (found v xs) first (placed_in v xs rest)
 
--- a table in a place that is not used changes nothing
-pub unused : (p : ℕ) (t : Table) (tables : Places) (xs : List Held) → used p xs ≡ false → all_of (at p t tables) xs ≡ all_of tables xs
-unfolding used
-unused p t tables [] e = refl
-unused p t tables (x ∷ xs) e =
-    let q = or_none (eqb x.place p) (used p xs) e in
-    λ k. record { version = x.version; table = ap (λ b. cond b t (tables x.place)) q.0 k } ∷ unused p t tables xs q.1 k
+pub placed_found : (v : ℕ) (xs : List Held) (o : Option ℕ) → o ≡ place_in (found v xs) → placed xs ≡ true → IfSome o (λ p. p < slots)
+placed_found v xs o e h = subst (λ p. IfSome p (λ q. q < slots)) (sym e) (placed_in v xs h)
 
--- one version more, whose table goes into a place that is not used
-pub added : (v p : ℕ) (held : List Held) (n : ℕ) → n < length held → used p (take n held) ≡ false → (tables : Places) (t : Table) →
-    all_of (at p t tables) (take (n + 1) (set held n (record { version = v; place = p }))) ≡ all_of tables (take n held) ++ (record { version = v; table = t } ∷ [])
-added v p held n h e tables t =
-    let x : Held = record { version = v; place = p } in
-    let same : at p t tables p ≡ t = ap (λ b. cond b t (tables p)) (eq-eqb p p refl) in
-    ap (all_of (at p t tables)) (take_more_set held n x h) ∙ map_push (one_of (at p t tables)) (take n held) x ∙ λ k. unused p t tables (take n held) e k ++ (record { version = v; table = same k } ∷ [])
+-- where the two places are used there are two versions
+two_used : (xs : List Held) → used 0 xs ≡ true → used 1 xs ≡ true → slots ≤ length xs
+two_used [] a b = grind (arith, a)
+two_used (x ∷ []) a b = grind (arith, a, b)
+two_used (x ∷ y ∷ xs) a b = omega arith
 
-pub others_of : (v : ℕ) (tables : Places) (xs : List Held) → all_of tables (others v xs) ≡ without v (all_of tables xs)
-others_of v tables [] = refl
-others_of v tables (x ∷ xs) =
-    let r = others_of v tables xs in
-    elim (not (gone v x.version)) as (λ b. all_of tables (cond b (x ∷ others v xs) (others v xs)) ≡ cond b (one_of tables x ∷ without v (all_of tables xs)) (without v (all_of tables xs))) [
-      | true ↦ ap (λ l. one_of tables x ∷ l) r
-      | false ↦ r
-    ]
+-- the first place that is not used
+pub free_found : (xs : List Held) (r : Option ℕ) → r ≡ find (λ p. not (used p xs)) (0 ∷ 1 ∷ []) → MatchOption r (slots ≤ length xs) (λ p. (p < slots) × (used p xs ≡ false))
+free_found xs r e = subst (λ o. MatchOption o (slots ≤ length xs) (λ p. (p < slots) × (used p xs ≡ false))) (sym e) (by (used 0 xs) (used 1 xs) refl refl)
+  where
+    by : (a b : Bool) → used 0 xs ≡ a → used 1 xs ≡ b → MatchOption (cond (not a) (Some 0) (cond (not b) (Some 1) None)) (slots ≤ length xs) (λ p. (p < slots) × (used p xs ≡ false))
+    by false b e f = (omega arith, e)
+    by true false e f = (omega arith, f)
+    by true true e f = two_used xs e f
+
+-- one version more, in a free place
+pub taken_in : (v : ℕ) (s : Switch) (r : Versions) (p : ℕ) → s.floor ≤ v → ((tables : Places) → knows v (held_of tables s.versions) ≡ false) → Added v s.versions r p →
+    (tables : Places) (t : Table) → switch_of (at p t tables) (record { stamp = s.stamp; floor = s.floor; versions = r; marks = s.marks }) ≡ install v t (switch_of tables s)
+taken_in v s r p low new more tables t =
+    let x = switch_of tables s in
+    let y : run.Switch = with_held (x.held ++ (one v t ∷ [])) x in
+    let above : leb s.floor v ≡ true = grind arith in
+    let test : (leb s.floor v && not (knows v x.held)) ≡ true = ap (λ b. b && not (knows v x.held)) above ∙ ap not (new tables) in
+    (λ k. record { held = more.after tables t k; stamp = s.stamp; floor = s.floor; latest = latest_of s.marks }) ∙ sym (ap (λ b. cond b y x) test)

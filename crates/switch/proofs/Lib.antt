@@ -1,3 +1,3 @@
-pub mod Marked
 pub mod Holds
-pub mod Room
+pub mod Marked
+pub mod Rows

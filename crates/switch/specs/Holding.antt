@@ -1,10 +1,11 @@
 -- The versions that a switch holds, and where their tables lie.
--- Tables lie in places: a function from places to tables stands for the memory that a switch is lent. heldOf: what the run's switch holds.
-use Rattle.std.specs.Prelude.{◌≡◌, ℕ, Bool, true, false, not, ◌&&◌, ◌||◌, List, [], ◌∷◌, map, Some, None, filter, Option, ◌==◌, nat_lt}
+-- Tables lie in places: a function from places to tables stands for the memory that a switch is lent. all_of: what the run's switch holds.
+use Rattle.std.specs.Prelude.{ℕ, Bool, List, map, Option, ◌==◌, nat_lt}
+use Rattle.std.specs.List.{flat_map, list_all, list_any}
+use Rattle.std.specs.Option.{option_to_list}
 use Rattle.packet.specs.Table.{Table}
 use Rattle.run.specs.Switch as run
-use Rattle.run.specs.Switch.{knows, table_of, gone}
-use Rattle.switch.specs.declared.versions.held.Held.{Held}
+use Rattle.switch.specs.declared.versions.Held.{Held}
 
 -- how many places there are
 abbrev pub slots : ℕ
@@ -19,20 +20,13 @@ one_of tables x = record { version = x.version; table = tables x.place }
 abbrev pub all_of : Places → List Held → List run.Held
 all_of tables xs = map (one_of tables) xs
 
+-- those in a row in which entries may be empty
+abbrev pub held_in : List (Option Held) → List Held
+held_in row = flat_map option_to_list row
+
 -- each place is there
-unfoldable pub placed : List Held → Bool
-placed [] = true
-placed (x ∷ xs) = nat_lt x.place slots && placed xs
+abbrev pub placed : List Held → Bool
+placed xs = list_all (λ x. nat_lt x.place slots) xs
 
-unfoldable pub used : ℕ → List Held → Bool
-used p [] = false
-used p (x ∷ xs) = x.place == p || used p xs
-
--- all but those of version v
-abbrev pub others : ℕ → List Held → List Held
-others v xs = filter (λ x. not (gone v x.version)) xs
-
--- the place of version v, or none where v is not there, whatever the tables are
-abbrev pub Found : ℕ → List Held → Option ℕ → Type 0
-Found v xs None = (tables : Places) → knows v (all_of tables xs) ≡ false
-Found v xs (Some p) = (placed xs ≡ true → nat_lt p slots ≡ true) × ((tables : Places) → (knows v (all_of tables xs) ≡ true) × (table_of v (all_of tables xs) ≡ tables p))
+abbrev pub used : ℕ → List Held → Bool
+used p xs = list_any (λ x. x.place == p) xs

@@ -5,7 +5,7 @@ use Rattle.run.specs.At.{at}
 use Rattle.run.specs.Net.{Wire}
 use Rattle.run.specs.Switch as run
 use Rattle.run.specs.Switch.{is_cable, later}
-use Rattle.switch.specs.declared.marks.Mark.{Mark}
+use Rattle.wire.specs.declared.mark.Mark.{Mark}
 use Rattle.switch.specs.declared.marks.Marks.{Marks}
 
 -- how many ports a switch can have

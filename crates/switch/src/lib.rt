@@ -5,9 +5,10 @@ pub mod marks;
 pub mod steps;
 pub mod versions;
 
-pub use marks::{Mark, Marks, PORTS};
-pub use steps::Taken;
-pub use versions::{SLOTS, Versions};
+pub use marks::{Marks, PORTS};
+pub use steps::Installed;
+pub use versions::{Full, SLOTS, Versions};
+pub use wire::Mark;
 
 // stamp: the version of what comes in from outside. floor: no version below it is taken in.
 #[derive(Clone, Copy)]

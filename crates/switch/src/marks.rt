@@ -4,16 +4,12 @@ ghost use Rattle.run.specs.Net.{Wire};
 ghost use Rattle.run.specs.Switch.{all_reach, later, reaches};
 ghost use Rattle.switch.specs.Marking.{Drawn, kept, latest_of, mark_of, no_marks, ports};
 
+use wire::Mark;
+
 // The ports that a switch can have.
 pub const PORTS: usize = 32;
 
-// A mark of a round of a version's change. Rounds count from 1: version 0 and round 0 stand for no mark.
-#[derive(Clone, Copy, Debug, PartialEq)]
-pub struct Mark {
-    pub version: u16,
-    pub round: u8,
-}
-
+// Rounds count from 1: version 0 and round 0 stand for no mark. It is no Option, since the run takes this very mark for one that has come everywhere.
 pub const NO_MARK: Mark = Mark {
     version: 0,
     round: 0,
@@ -24,20 +20,18 @@ pub struct Marks {
     latest: [Mark; PORTS],
 }
 
-impl Mark {
-    // Versions first, then rounds.
-    pub fn is_later(self, other: Mark) -> bool
-        ensures value { result ≡ later (mark_of self) (mark_of other) }
-    {
-        other.version < self.version || (other.version == self.version && other.round < self.round)
-    }
+// Versions first, then rounds.
+pub fn is_later(mark: Mark, other: Mark) -> bool
+    ensures value { result ≡ later (mark_of mark) (mark_of other) }
+{
+    mark > other
+}
 
-    // Of the same version, and of the same round or a higher one.
-    pub fn reaches(self, mark: Mark) -> bool
-        ensures value { result ≡ reaches (mark_of mark) (mark_of self) }
-    {
-        self.version == mark.version && mark.round <= self.round
-    }
+// The latest mark is of the same version, and of the same round or a higher one.
+pub fn reaches(latest: Mark, mark: Mark) -> bool
+    ensures value { result ≡ reaches (mark_of mark) (mark_of latest) }
+{
+    latest.version == mark.version && latest.round >= mark.round
 }
 
 impl Marks {
@@ -52,11 +46,7 @@ impl Marks {
     pub fn latest(self, port: usize) -> Mark
         ensures value { mark_of result ≡ latest_of self port }
     {
-        if port < PORTS {
-            self.latest[port]
-        } else {
-            NO_MARK
-        }
+        self.latest.get(port).copied().unwrap_or(NO_MARK)
     }
 
     // Keeps a mark that is later than the latest at its port. There is nothing to keep where there is no port.
@@ -64,7 +54,7 @@ impl Marks {
         ensures after { port < ports → latest_of result ≡ kept port (mark_of mark) (latest_of self) }
         ensures same { ports ≤ port → latest_of result ≡ latest_of self }
     {
-        if port < PORTS && mark.is_later(self.latest[port]) {
+        if port < PORTS && is_later(mark, self.latest[port]) {
             self.latest[port] = mark;
         }
         self
@@ -74,11 +64,6 @@ impl Marks {
     pub fn all_reached(self, mark: Mark, cables: &[bool]) -> bool
         ensures value { (wire : ℕ → Wire) → Drawn cables.now wire → result ≡ all_reach (length cables.now) wire (mark_of mark) (latest_of self) }
     {
-        for port in 0..cables.len() {
-            if cables[port] && !self.latest(port).reaches(mark) {
-                return false;
-            }
-        }
-        true
+        cables.iter().enumerate().all(|(port, cable)| !*cable || reaches(self.latest(port), mark))
     }
 }

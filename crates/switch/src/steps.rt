@@ -8,17 +8,14 @@ ghost use Rattle.switch.specs.Holding.{Places, slots};
 ghost use Rattle.switch.specs.Marking.{Drawn, mark_of, ports};
 ghost use Rattle.switch.specs.Model.{Lies, TookIn, switch_of};
 
-use crate::{Mark, Marks, Switch, Versions};
+use crate::versions::{Full, TakenIn, Versions};
+use crate::{Mark, Marks, Switch};
 
-// What comes of an install.
+// A switch that has taken in a version, and the place that its table goes into.
 #[derive(Clone, Copy)]
-pub enum Taken {
-    // The version is below the floor or there: nothing is to be done.
-    Ignored,
-    // The switch afterwards, and the place that the table goes into.
-    Into(Switch, usize),
-    // All places are in use.
-    Full,
+pub struct Installed {
+    pub switch: Switch,
+    pub place: usize,
 }
 
 impl Switch {
@@ -54,25 +51,16 @@ impl Switch {
         self.versions.place(version)
     }
 
-    // Takes in a version, unless it is below the floor or there.
-    pub fn install(self, version: u16) -> Taken
+    // Takes in a version. If it is below the floor or there, nothing is to be done.
+    pub fn install(self, version: u16) -> Result<Option<Installed>, Full>
         ensures after { TookIn version self result }
     {
         if version < self.floor || self.versions.knows(version) {
-            return Taken::Ignored;
+            return Ok(None);
         }
-        match self.versions.take_in(version) {
-            None => Taken::Full,
-            Some(taken) => Taken::Into(
-                Switch {
-                    stamp: self.stamp,
-                    floor: self.floor,
-                    versions: taken.0,
-                    marks: self.marks,
-                },
-                taken.1,
-            ),
-        }
+        let TakenIn { versions, place } = self.versions.take_in(version)?;
+        let switch = Switch { versions, ..self };
+        Ok(Some(Installed { switch, place }))
     }
 
     // Gives the version to what comes in from outside, if it is above the stamp and its table is there.
@@ -84,9 +72,7 @@ impl Switch {
         }
         Switch {
             stamp: version,
-            floor: self.floor,
-            versions: self.versions,
-            marks: self.marks,
+            ..self
         }
     }
 
@@ -97,16 +83,10 @@ impl Switch {
         if version >= self.stamp {
             return self;
         }
-        let floor = if self.floor <= version {
-            version + 1
-        } else {
-            self.floor
-        };
         Switch {
-            stamp: self.stamp,
-            floor,
+            floor: self.floor.max(version + 1),
             versions: self.versions.without(version),
-            marks: self.marks,
+            ..self
         }
     }
 
@@ -116,10 +96,8 @@ impl Switch {
         ensures same { ports ≤ port → (tables : Places) → switch_of tables result ≡ switch_of tables self }
     {
         Switch {
-            stamp: self.stamp,
-            floor: self.floor,
-            versions: self.versions,
             marks: self.marks.keep(port, mark),
+            ..self
         }
     }
 

@@ -1,45 +1,48 @@
--- Copies that are gathered: one packet more.
-use Rattle.std.proofs.Common.{◌≡◌, ℕ, ◌+◌, ◌<◌, ◌≤◌, Bool, true, false, ◌||◌, List, [], ◌∷◌, ◌++◌, length, get_or, take, drop, set, sym, ap, ◌∙◌, arith}
-use Rattle.std.proofs.lemmas.List.{at_drop_more, at_drop_all, get_or-map, length-map, take_more_set, map_push}
-use Rattle.packet.specs.Packet as packets
-use Rattle.packet.specs.Packet.{same_packet, once, is_in}
-use Rattle.packet.specs.declared.Packet.{Packet}
-use Rattle.packet.proofs.Once.{once_old, once_new, once_twice}
-use Rattle.table.specs.declared.sent.Sent.{Sent}
-use Rattle.table.specs.Listed.{fields_of}
-use Rattle.table.specs.Views.{copies_of}
+-- Copies that are gathered, one after the other: they are few, and each is there once.
+use Rattle.std.proofs.Common.{◌≡◌, ℕ, ◌≤◌, true, false, cond, List, [], ◌∷◌, ◌++◌, length, Result, Ok, Err, IsOk, refl, sym, ap, ◌∙◌, arith}
+use Rattle.std.proofs.lemmas.Bool.{ltb-true}
+use Rattle.std.proofs.lemmas.List.{append_assoc}
+use Rattle.octets.specs.declared.fault.Fault.{Fault}
+use Rattle.packet.specs.Copies.{Took}
+use Rattle.packet.specs.declared.copies.Copies.{Copies}
+use Rattle.packet.specs.Packet.{Packet, same_packet, others, once}
+use Rattle.packet.specs.Table.{Setting, set_all, outputs}
+use Rattle.packet.proofs.Once.{once_once, once_grows}
 
--- a packet among the packets from place i on
-module _ (ps : List Packet) (p : packets.Packet) (i : ℕ) where
-  module _ (d : Packet) (r : Bool) (lt : i < length ps) (is : r ≡ same_packet p (get_or ps i d).fields) where
-    step : is_in p (drop i (fields_of ps)) ≡ (r || is_in p (drop (i + 1) (fields_of ps)))
-    unfolding is_in
-    step =
-        at_drop_more (is_in p) (fields_of ps) i [] (omega (arith, length-map ps (λ q. q.fields)))
-        ∙ ap (λ b. b || is_in p (drop (i + 1) (fields_of ps)))
-        (ap (same_packet p) (get_or-map (λ q. q.fields) ps i d [] lt) ∙ sym is)
+others_short : (p : Packet) (qs : List Packet) → length (others p qs) ≤ length qs
+unfolding others
+others_short p [] = omega arith
+others_short p (q ∷ qs) =
+    elim (same_packet p q) as (λ b. length (cond b (others p qs) (q ∷ others p qs)) ≤ length (q ∷ qs))
+    [ true ↦ omega (arith, others_short p qs) | false ↦ omega (arith, others_short p qs) ]
 
-    pub in_found : r ≡ true → is_in p (drop i (fields_of ps)) ≡ true
-    in_found e = step ∙ ap (λ b. b || is_in p (drop (i + 1) (fields_of ps))) e
+once_short : (ps : List Packet) → length (once ps) ≤ length ps
+unfolding once
+once_short [] = omega arith
+once_short (p ∷ ps) = omega (arith, others_short p (once ps), once_short ps)
 
-    pub in_passed : r ≡ false → is_in p (drop i (fields_of ps)) ≡ is_in p (drop (i + 1) (fields_of ps))
-    in_passed e = step ∙ ap (λ b. b || is_in p (drop (i + 1) (fields_of ps))) e
+outputs_few : (os : List (List Setting)) (p : Packet) → length (outputs os p) ≤ length os
+unfolding outputs
+outputs_few [] p = omega arith
+outputs_few (o ∷ os) p = omega (arith, outputs_few os p)
 
-  pub in_none : length ps ≤ i → is_in p (drop i (fields_of ps)) ≡ false
-  unfolding is_in
-  in_none h = at_drop_all (is_in p) (fields_of ps) i (omega (arith, length-map ps (λ q. q.fields)))
+-- one out more, of which q is the copy
+module _ (sent : List Packet) (all more rest : List (List Setting)) (o : List Setting) (p q : Packet) (is : more ≡ o ∷ rest) (copy : q ≡ set_all o p)
+    (so : once (sent ++ outputs more p) ≡ once (outputs all p)) where
+  one_more : once ((sent ++ q ∷ []) ++ outputs rest p) ≡ once (outputs all p)
+  unfolding outputs
+  one_more =
+      ap once (append_assoc sent (q ∷ []) (outputs rest p))
+      ∙ ap (λ c. once (sent ++ c ∷ outputs rest p)) copy
+      ∙ ap (λ os. once (sent ++ outputs os p)) (sym is)
+      ∙ so
 
--- a packet that is there, and one that is new
-module _ (s : Sent) (p : Packet) where
-  pub with_old : is_in p.fields (copies_of s) ≡ true → copies_of s ≡ once (copies_of s ++ p.fields ∷ [])
-  with_old h = sym (once_old (copies_of s) p.fields h ∙ s.apart)
+  pub gather : (now : List Packet) → now ≡ once (sent ++ q ∷ []) → once (now ++ outputs rest p) ≡ once (outputs all p)
+  gather now e = ap (λ l. once (l ++ outputs rest p)) e ∙ once_once (sent ++ q ∷ []) (outputs rest p) ∙ one_more
 
-  pub with_new : s.count < length s.packets → is_in p.fields (copies_of s) ≡ false →
-      fields_of (take (s.count + 1) (set s.packets s.count p)) ≡ once (copies_of s ++ p.fields ∷ [])
-  with_new lt h =
-      ap fields_of (take_more_set s.packets s.count p lt) ∙ map_push (λ q. q.fields) (take s.count s.packets) p
-      ∙ sym (once_new (copies_of s) p.fields h ∙ ap (λ l. l ++ p.fields ∷ []) s.apart)
+  fits : length (once (sent ++ q ∷ [])) ≤ length all
+  fits = omega (arith, once_grows (sent ++ q ∷ []) (outputs rest p), ap length one_more, once_short (outputs all p), outputs_few all p)
 
--- what is once each stays so
-pub once_since : (xs ys : List packets.Packet) → xs ≡ once ys → once xs ≡ xs
-once_since xs ys e = ap once e ∙ once_twice ys ∙ sym e
+  pub gathers : {n : ℕ} (r : Result (Unit {0}) Fault) (s : Copies n) → length all ≤ n → Took n (sent ++ q ∷ []) r s → IsOk r
+  gathers (Ok d) s few t = refl
+  gathers {n} (Err e) s few t = absurd (omega (arith, fits, ltb-true n (length (once (sent ++ q ∷ []))) t.0))

@@ -1,5 +1,5 @@
-pub mod Decides
-mod Gathering
+pub mod Alike
 pub mod Encoding
-pub mod Steps
-pub mod Telling
+pub mod Gathering
+pub mod Reading
+pub mod Sizes

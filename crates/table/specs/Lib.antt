@@ -1,6 +1,5 @@
 pub mod Bytes
 pub mod Good
 pub mod Lines
-pub mod Listed
 pub mod Views
 pub mod Words

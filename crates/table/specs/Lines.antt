@@ -23,9 +23,12 @@ out_text o = listed (codes "same") (codes " ") setting_text o
 abbrev pub outs_text : List (List Setting) → List ℕ
 outs_text os = listed (codes "drop") (codes " | ") out_text os
 
+abbrev pub rule_text : Rule → List ℕ
+rule_text r = wants_text r.wants ++ (codes " -> " ++ outs_text r.outs)
+
 -- with the end of the line, which is the character 10
 abbrev pub rule_line : Rule → List ℕ
-rule_line r = wants_text r.wants ++ (codes " -> " ++ (outs_text r.outs ++ 10 ∷ []))
+rule_line r = rule_text r ++ 10 ∷ []
 
 abbrev pub table_text : Table → List ℕ
 table_text t = flat_map rule_line t

@@ -3,12 +3,15 @@
 
 mod lines;
 mod matching;
-pub mod places;
-pub mod sent;
+pub mod outs;
+pub mod pairs;
+pub mod rules;
+mod sound;
 pub mod tables;
-pub mod words;
 mod writes;
 
-pub use sent::Sent;
-pub use tables::{Table, is_table, layout_stands};
-pub use words::{SETTING_WORDS, Setting, WANT_WORDS, Want};
+pub use outs::Outs;
+pub use pairs::Pairs;
+pub use rules::{Rule, Rules};
+pub use sound::is_table;
+pub use tables::{Table, layout_stands};

@@ -1,61 +1,52 @@
 // Which rule decides about a packet, and what it gives.
-ghost use Rattle.std.specs.Prelude.{◌≡◌, true};
+ghost use Rattle.std.specs.Prelude.{◌≡◌};
+ghost use Rattle.packet.specs.Copies.{listing};
 ghost use Rattle.packet.specs.Packet.{once};
 ghost use Rattle.packet.specs.Table.{set_all, outputs};
-ghost use Rattle.table.specs.Views.{copies_of, Decided};
-ghost use Rattle.table.specs.Words.{Sound, setting_size, out_at, outs_at, few_in, outs_in, rules_of};
+ghost use Rattle.table.specs.Views.{Decided, rules_in, settings_in, outs_in};
 
-use crate::places;
-use crate::sent::Sent;
-use crate::words::{SETTING_WORDS, WANT_WORDS};
-use packet::Packet;
+use crate::outs::Outs;
+use crate::pairs::Pairs;
+use crate::rules::Rule;
+use crate::tables::Table;
+use packet::{Copies, Packet};
 
-// The place of the outs of the first rule whose wants the packet meets.
-pub(crate) fn first_match(words: &[u16], p: Packet) -> Option<usize>
-    requires sound { Sound words.now }
-    ensures cases { Decided words.now (rules_of words.now) p.fields result }
+// The first rule whose wants the packet meets.
+#[tactic(auto, unfolding(packet::specs::Table::meets_all, packet::specs::Table::decided))]
+pub(crate) fn first_match<'a>(table: Table<'a>, p: Packet) -> Option<Rule<'a>>
+    ensures cases { Decided (rules_in table.entry) p.fields result }
 {
-    let mut at = 0;
-    'rules: while at < words.len() {
-        let outs = places::wants_end(words, at);
-        let wants = words[at];
-        let mut place = at + 1;
-        at = places::outs_end(words, outs);
-        for _i in 0..wants {
-            if !places::want_at(words, place).is_met(p) {
+    'rules: for rule in table.rules() {
+        for want in rule.wants {
+            if !want.is_met(p) {
                 continue 'rules;
             }
-            place += WANT_WORDS;
         }
-        return Some(outs);
+        return Some(rule);
     }
     None
 }
 
-// The packet with the settings of the out at `at`.
-fn copy(words: &[u16], at: usize, p: Packet) -> Packet
-    requires there { few_in words.now setting_size at ≡ true }
-    ensures value { result.fields ≡ set_all (out_at words.now at) p.fields }
+// The packet with the settings of an out.
+#[tactic(auto, unfolding(packet::specs::Table::set_all))]
+fn copy(out: Pairs<'_>, p: Packet) -> Packet
+    ensures value { result.fields ≡ set_all (settings_in out.entry) p.fields }
 {
-    let mut place = at + 1;
     let mut q = p;
-    for _i in 0..words[at] {
-        q = places::setting_at(words, place).set(q);
-        place += SETTING_WORDS;
+    for setting in out {
+        q = setting.set(q);
     }
     q
 }
 
-// What the outs whose number is at `at` make of the packet, each copy once.
-pub(crate) fn copies(words: &[u16], at: usize, p: Packet) -> Sent
-    requires there { outs_in words.now at ≡ true }
-    ensures value { copies_of result ≡ once (outputs (outs_at words.now at) p.fields) }
+// What the outs make of the packet, each copy once.
+#[tactic(auto, using(crate::proofs::Gathering::gather), unfolding(packet::specs::Table::outputs))]
+pub(crate) fn copies(outs: Outs<'_>, p: Packet) -> Copies<16>
+    ensures value { listing result ≡ once (outputs (outs_in outs.entry) p.fields) }
 {
-    let mut place = at + 1;
-    let mut sent = Sent::none();
-    for _i in 0..words[at] {
-        sent = sent.with(copy(words, place, p));
-        place = places::out_end(words, place);
+    let mut sent = Copies::none();
+    for out in outs {
+        sent.add(copy(out, p)).unwrap();
     }
     sent
 }

@@ -4,7 +4,7 @@ ghost use Rattle.table.specs.Words.{sound};
 
 mod calls;
 
-pub use calls::{is_table, layout_stands};
+pub use calls::layout_stands;
 
 #[derive(Clone, Copy)]
 pub struct Table<'a> {

@@ -1,139 +1,66 @@
-// Writing a table as bytes. There is room for two bytes for each word that is left.
-ghost use Rattle.std.specs.Prelude.{◌≡◌, ◌+◌, ◌-◌, ◌*◌, ◌≤◌, true, ◌++◌, length, vec_len, vec_capacity, MatchResult};
+// Writing a table as bytes. There is room for all that is written.
+ghost use Rattle.std.specs.Prelude.{◌≡◌, ◌+◌, ◌≤◌, ◌++◌, length, vec_len, vec_capacity, MatchResult};
 ghost use Rattle.std.specs.List.{flat_map};
-ghost use Rattle.table.specs.Bytes.{want_bytes, setting_bytes, wants_bytes, out_bytes, outs_bytes, rule_bytes, table_bytes};
-ghost use Rattle.table.specs.Views.{want_of, setting_of};
-ghost use Rattle.table.specs.Words.{Sound, want_size, setting_size, out_at, wants_at, outs_at, rule_at, out_end, wants_end, outs_end, rule_end, rules_of, few_in, outs_in, rule_in};
+ghost use Rattle.table.specs.Bytes.{out_bytes, outs_bytes, rule_bytes, table_bytes};
+ghost use Rattle.table.specs.Views.{settings_in, outs_in, rule_of, rules_in};
 
-use crate::places;
-use crate::words::{SETTING_WORDS, Setting, WANT_WORDS, Want};
+use crate::outs::Outs;
+use crate::pairs::Pairs;
+use crate::rules::Rule;
+use crate::tables::Table;
 use std::alloc::AllocError;
 
-fn append(out: &mut Vec<u8>, more: &[u8])
-    requires room { vec_len out.old + length more.now ≤ vec_capacity out.old }
-    ensures items { out.new.items ≡ out.old.items ++ more.now }
-    ensures len { vec_len out.new ≡ vec_len out.old + length more.now }
+fn pairs(out: &mut Vec<u8>, pairs: Pairs<'_>)
+    requires room { vec_len out.old + length (out_bytes (settings_in pairs)) ≤ vec_capacity out.old }
+    ensures items { out.new.items ≡ out.old.items ++ out_bytes (settings_in pairs.entry) }
     ensures capacity { vec_capacity out.old ≤ vec_capacity out.new }
 {
-    let _ = out.extend_from_slice(more);
+    out.push_reserved(pairs.number());
+    for pair in pairs {
+        let [high, low] = pair.value.to_be_bytes();
+        out.extend_from_slice(&[pair.field, high, low]).unwrap();
+    }
 }
 
-fn want(out: &mut Vec<u8>, w: Want)
-    requires room { vec_len out.old + 3 ≤ vec_capacity out.old }
-    ensures items { out.new.items ≡ out.old.items ++ want_bytes (want_of w) }
-    ensures len { vec_len out.new ≡ vec_len out.old + 3 }
+fn outs(out: &mut Vec<u8>, outs: Outs<'_>)
+    requires room { vec_len out.old + length (outs_bytes (outs_in outs)) ≤ vec_capacity out.old }
+    ensures items { out.new.items ≡ out.old.items ++ outs_bytes (outs_in outs.entry) }
     ensures capacity { vec_capacity out.old ≤ vec_capacity out.new }
 {
-    append(
-        out,
-        &[w.field, (w.value / 256) as u8, (w.value % 256) as u8],
-    );
+    out.push_reserved(outs.number());
+    for settings in outs {
+        pairs(out, settings);
+    }
 }
 
-fn setting(out: &mut Vec<u8>, s: Setting)
-    requires room { vec_len out.old + 3 ≤ vec_capacity out.old }
-    ensures items { out.new.items ≡ out.old.items ++ setting_bytes (setting_of s) }
-    ensures len { vec_len out.new ≡ vec_len out.old + 3 }
+fn rule(out: &mut Vec<u8>, rule: Rule<'_>)
+    requires room { vec_len out.old + length (rule_bytes (rule_of rule)) ≤ vec_capacity out.old }
+    ensures items { out.new.items ≡ out.old.items ++ rule_bytes (rule_of rule.entry) }
     ensures capacity { vec_capacity out.old ≤ vec_capacity out.new }
 {
-    append(
-        out,
-        &[s.field, (s.value / 256) as u8, (s.value % 256) as u8],
-    );
+    pairs(out, rule.wants);
+    outs(out, rule.outs);
 }
 
-fn wants(out: &mut Vec<u8>, words: &[u16], at: usize)
-    requires there { few_in words.now want_size at ≡ true }
-    requires room { vec_len out.old + 2 * (length words.now - at) ≤ vec_capacity out.old }
-    ensures items { out.new.items ≡ out.old.items ++ wants_bytes (wants_at words.now at) }
-    ensures room { vec_len out.new + 2 * (length words.now - wants_end words.now at) ≤ vec_capacity out.new }
+fn rules(out: &mut Vec<u8>, table: Table<'_>)
+    requires room { vec_len out.old + length (flat_map rule_bytes (rules_in table)) ≤ vec_capacity out.old }
+    ensures items { out.new.items ≡ out.old.items ++ flat_map rule_bytes (rules_in table.entry) }
 {
-    let n = words[at];
-    append(out, &[n as u8]);
-    let mut place = at + 1;
-    for _i in 0..n {
-        want(out, places::want_at(words, place));
-        place += WANT_WORDS;
+    for r in table.rules() {
+        rule(out, r);
     }
-}
-
-fn one_out(out: &mut Vec<u8>, words: &[u16], at: usize)
-    requires there { few_in words.now setting_size at ≡ true }
-    requires room { vec_len out.old + 2 * (length words.now - at) ≤ vec_capacity out.old }
-    ensures items { out.new.items ≡ out.old.items ++ out_bytes (out_at words.now at) }
-    ensures room { vec_len out.new + 2 * (length words.now - out_end words.now at) ≤ vec_capacity out.new }
-{
-    let n = words[at];
-    append(out, &[n as u8]);
-    let mut place = at + 1;
-    for _i in 0..n {
-        setting(out, places::setting_at(words, place));
-        place += SETTING_WORDS;
-    }
-}
-
-fn outs(out: &mut Vec<u8>, words: &[u16], at: usize)
-    requires there { outs_in words.now at ≡ true }
-    requires room { vec_len out.old + 2 * (length words.now - at) ≤ vec_capacity out.old }
-    ensures items { out.new.items ≡ out.old.items ++ outs_bytes (outs_at words.now at) }
-    ensures room { vec_len out.new + 2 * (length words.now - outs_end words.now at) ≤ vec_capacity out.new }
-{
-    let n = words[at];
-    append(out, &[n as u8]);
-    let mut place = at + 1;
-    for _i in 0..n {
-        one_out(out, words, place);
-        place = places::out_end(words, place);
-    }
-}
-
-fn rule(out: &mut Vec<u8>, words: &[u16], at: usize)
-    requires there { rule_in words.now at ≡ true }
-    requires room { vec_len out.old + 2 * (length words.now - at) ≤ vec_capacity out.old }
-    ensures items { out.new.items ≡ out.old.items ++ rule_bytes (rule_at words.now at) }
-    ensures room { vec_len out.new + 2 * (length words.now - rule_end words.now at) ≤ vec_capacity out.new }
-{
-    wants(out, words, at);
-    outs(out, words, places::wants_end(words, at));
-}
-
-fn rules(out: &mut Vec<u8>, words: &[u16])
-    requires sound { Sound words.now }
-    requires room { vec_len out.old + 2 * length words.now ≤ vec_capacity out.old }
-    ensures items { out.new.items ≡ out.old.items ++ flat_map rule_bytes (rules_of words.now) }
-{
-    let mut at = 0;
-    while at < words.len() {
-        rule(out, words, at);
-        at = places::rule_end(words, at);
-    }
-}
-
-// How many rules there are.
-pub(crate) fn count(words: &[u16]) -> usize
-    requires sound { Sound words.now }
-    ensures value { result ≡ length (rules_of words.now) }
-    ensures few { result ≤ 2048 }
-{
-    let mut at = 0;
-    let mut n = 0;
-    while at < words.len() {
-        at = places::rule_end(words, at);
-        n += 1;
-    }
-    n
 }
 
 // Puts the table's bytes behind what is there, or changes nothing where no memory is left.
-pub(crate) fn table(out: &mut Vec<u8>, words: &[u16]) -> Result<(), AllocError>
-    requires sound { Sound words.now }
+#[tactic(auto, using(crate::proofs::Sizes::bytes_few, crate::proofs::Sizes::count_few))]
+pub(crate) fn table(out: &mut Vec<u8>, table: Table<'_>) -> Result<(), AllocError>
     ensures cases { MatchResult result
-        (λ _. out.new.items ≡ out.old.items ++ table_bytes (rules_of words.now))
+        (λ _. out.new.items ≡ out.old.items ++ table_bytes (rules_in table.entry))
         (λ _. out.new.items ≡ out.old.items) }
 {
-    let n = count(words);
-    out.reserve(2 + 2 * words.len())?;
-    append(out, &[(n / 256) as u8, (n % 256) as u8]);
-    rules(out, words);
+    let count = table.rule_count() as u16;
+    out.reserve(2 + 2 * table.words().len())?;
+    out.extend_from_slice(&count.to_be_bytes()).unwrap();
+    rules(out, table);
     Ok(())
 }

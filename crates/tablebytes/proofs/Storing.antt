@@ -1,5 +1,5 @@
 -- A table that was measured is read again, and its words fill the front.
-use Rattle.std.proofs.Common.{◌≡◌, ℕ, suc, ◌+◌, ◌≤◌, Bool, true, leb, List, [], ◌∷◌, ◌++◌, length, take, drop, set, IfOk, Ok, Err, MatchBool, Result, sym, ap, ◌∙◌, subst, add-zero, zero-add, arith}
+use Rattle.std.proofs.Common.{◌≡◌, ℕ, suc, ◌+◌, ◌≤◌, Bool, true, leb, List, [], ◌∷◌, ◌++◌, length, take, drop, set, IfOk, Ok, Err, MatchBool, Result, refl, sym, ap, ◌∙◌, subst, add-zero, zero-add, arith}
 use Rattle.std.proofs.lemmas.List.{append_assoc, length-set, take-append-drop, take_more_set, drop-set-lt, take_at}
 use Rattle.std.proofs.lemmas.Bool.{le-leb}
 use Rattle.octets.specs.Parse.{Got, Read, Bad, and_then, ended}
@@ -8,7 +8,7 @@ use Rattle.octets.proofs.Streams.{never}
 use Rattle.packet.specs.Table.{Table}
 use Rattle.table.specs.Words.{Sound, rules_of, encode}
 use Rattle.table.proofs.Encoding as layout
-use Rattle.tablebytes.specs.Filled.{written, Filled, Gave, Stored, sized}
+use Rattle.tablebytes.specs.Filled.{written, Wrote, Stored, sized}
 use Rattle.tablebytes.specs.Format.{table, alone}
 use Rattle.tablebytes.proofs.Trips.{table_good}
 
@@ -29,29 +29,34 @@ pub record Sized (got : Got Table) (n : ℕ) (left : List ℕ) : Type 0 where
   pub read : got ≡ Read what left
   pub long : n ≡ length (encode what)
 
-pub sized_is : (got : Got Table) (n : ℕ) (left : List ℕ) → Read n left ≡ sized got → Sized got n left
+sized_is : (got : Got Table) (n : ℕ) (left : List ℕ) → Read n left ≡ sized got → Sized got n left
 sized_is (Read t rest) n left e =
     let same : n ≡ length (encode t) = cc in
     let end : rest ≡ left = cc in
     record { what = t; read = ap (Read t) end; long = same }
 sized_is (Bad m) n left e = never (sym e)
 
-module _ (bs left before after : List ℕ) (t : Table) (is : table bs ≡ Read t []) where
+-- nothing follows what was measured
+ended_none : (bs : List ℕ) → ◌≡◌ {A = Got (Unit {0})} (Read tt []) (ended tt bs) → bs ≡ []
+ended_none [] e = refl
+ended_none (b ∷ bs) e = never (sym e)
+
+pub measured : (bs from left : List ℕ) (n : ℕ) → from ≡ bs → ◌≡◌ {A = Got (Unit {0})} (Read tt []) (ended tt left) → Read n left ≡ sized (table from) → Sized (table bs) n []
+measured bs from left n is end read = sized_is (table bs) n [] (ap (Read n) (sym (ended_none left end)) ∙ read ∙ ap (λ l. sized (table l)) is)
+
+module _ (bs before after : List ℕ) (t : Table) (is : table bs ≡ Read t []) where
   all : alone bs ≡ Read t []
   all = ap (λ g. and_then g ended) is
 
-  same_table : (end : ℕ) → (f : Filled encode (table bs) left 0 before after end) → t ≡ f.what
-  same_table end f = let e : Read t [] ≡ Read f.what left = sym is ∙ f.read in cc
-
-  front : (end : ℕ) → Filled encode (table bs) left 0 before after end → length (encode t) ≤ length before → (end ≡ length (encode t)) × (after ≡ encode t ++ drop (length (encode t)) before)
-  front end f room =
-      let same = same_table end f in (
+  front : (end : ℕ) → Wrote (table bs) before after (Ok end) → length (encode t) ≤ length before → (end ≡ length (encode t)) × (after ≡ encode t ++ drop (length (encode t)) before)
+  front end (left, f) room =
+      let same : t ≡ f.what = let e : Read t [] ≡ Read f.what left = sym is ∙ f.read in cc in (
         omega (arith, f.place, ap (λ u. length (encode u)) same),
         f.words ∙ ap (λ u. written before 0 (encode u)) (sym same) ∙ written_between before 0 (encode t) (omega arith)
             ∙ ap (λ k. encode t ++ drop k before) (zero-add (length (encode t))),
       )
 
-  pub stored : (r : Result ℕ Fault) → Gave encode (table bs) left 0 before after r → length (encode t) ≤ length before → Stored (alone bs) before after r
+  pub stored : (r : Result ℕ Fault) → Wrote (table bs) before after r → length (encode t) ≤ length before → Stored (alone bs) before after r
   stored (Ok end) f room =
       let p = front end f room in
       let n = length (encode t) in
@@ -59,7 +64,7 @@ module _ (bs left before after : List ℕ) (t : Table) (is : table bs ≡ Read t
       subst (λ g. Stored g before after (Ok end)) (sym all) (when_so _ _ (leb n (length before)) fits (ap Ok p.0, p.1))
   stored (Err fault) e room = never (sym e ∙ is)
 
-  pub stands : (r : Result ℕ Fault) → Gave encode (table bs) left 0 before after r → length (encode t) ≤ length before →
+  pub stands : (r : Result ℕ Fault) → Wrote (table bs) before after r → length (encode t) ≤ length before →
       IfOk r (λ n. Sound (take n after) × (alone bs ≡ Read (rules_of (take n after)) []))
   stands (Ok end) f room =
       let p = front end f room in

@@ -1,8 +1,8 @@
 -- Reading and writing tables undo each other.
-use Rattle.std.proofs.Common.{◌≡◌, ℕ, zero, suc, ◌+◌, ◌*◌, ◌/◌, ◌%◌, ◌≤◌, leb, List, [], ◌∷◌, ◌++◌, length, take, sym, refl, ap, ◌∙◌, arith}
+use Rattle.std.proofs.Common.{◌≡◌, ℕ, zero, suc, ◌+◌, ◌*◌, ◌/◌, ◌%◌, ◌≤◌, leb, ltb, List, [], ◌∷◌, ◌++◌, length, take, sym, refl, ap, ◌∙◌, arith}
 use Rattle.std.specs.List.{flat_map}
 use Rattle.std.proofs.lemmas.List.{append-nil, append_assoc, length_push}
-use Rattle.std.proofs.lemmas.Bool.{le-leb, leb-true}
+use Rattle.std.proofs.lemmas.Bool.{le-leb, leb-true, lt-ltb, ltb-true}
 use Rattle.octets.specs.Parse.{Got, Read, Bad, and_then, check, byte, word, ended, word_bytes}
 use Rattle.octets.specs.Streams.{Consumes, Streams}
 use Rattle.octets.proofs.Streams.{never, streams_read, streams_byte, streams_word, streams_check, streams_then}
@@ -111,9 +111,9 @@ module _ {A : Type 0} (make : ℕ → ℕ → A) (at value : A → ℕ) (made : 
 
   spells_field : Spells field (λ f u. u ≡ f ∷ [])
   spells_field =
-      spells_then (λ k u. u ≡ k ∷ []) (λ k m w. (k ≡ m) × (w ≡ [])) _ byte (λ k r. check (leb k 7) 2 k r)
+      spells_then (λ k u. u ≡ k ∷ []) (λ k m w. (k ≡ m) × (w ≡ [])) _ byte (λ k r. check (ltb k 8) 2 k r)
       (λ k m u w p q. then_nothing u w q.1 ∙ p ∙ ap (λ z. z ∷ []) q.0) spells_byte
-      (λ k. spells_check (λ m w. (k ≡ m) × (w ≡ [])) (leb k 7) 2 k (refl, refl))
+      (λ k. spells_check (λ m w. (k ≡ m) × (w ≡ [])) (ltb k 8) 2 k (refl, refl))
 
   spells_value : (f : ℕ) → Spells (λ r. and_then (word r) (λ x q. Read (make f x) q)) (λ a used. f ∷ used ≡ at a ∷ word_bytes (value a))
   spells_value f =
@@ -125,16 +125,16 @@ module _ {A : Type 0} (make : ℕ → ℕ → A) (at value : A → ℕ) (made : 
   pair_form : Form pair (λ a. at a ∷ word_bytes (value a)) (λ a. at a ≤ 7)
   unfolding pair
   pair_form = record {
-    back = λ a rest h. rw (le-leb (at a) 7 h, word_joined (value a), made a);
+    back = λ a rest h. rw (lt-ltb (at a) 8 (omega (arith, h)), word_joined (value a), made a);
     good =
         yields_then (λ f. f ≤ 7) _ field _
-        (yields_then (λ k. Unit {0}) _ byte (λ f r. check (leb f 7) 2 f r) (yields_any byte) (λ f _. yields_check _ _ 2 f (leb-true f 7)))
+        (yields_then (λ k. Unit {0}) _ byte (λ f r. check (ltb f 8) 2 f r) (yields_any byte) (λ f _. yields_check (λ k. k ≤ 7) _ 2 f (λ e. omega (arith, ltb-true f 8 e))))
         (λ f small. yields_then (λ x. Unit {0}) _ word _ (yields_any word) (λ x _. yields_read _ (make f x) (omega (arith, at-made f x))));
     spelt =
         spells_then (λ f u. u ≡ f ∷ []) (λ f a w. f ∷ w ≡ at a ∷ word_bytes (value a)) _ field _
         (λ f a u w p q. ap (λ l. l ++ w) p ∙ q) spells_field spells_value;
     streams =
-        streams_then field _ (streams_then byte _ streams_byte (λ f. streams_check (leb f 7) 2 f)) (λ f. streams_then word _ streams_word (λ x. streams_read (make f x)));
+        streams_then field _ (streams_then byte _ streams_byte (λ f. streams_check (ltb f 8) 2 f)) (λ f. streams_then word _ streams_word (λ x. streams_read (make f x)));
   }
 
 want_form : Form want want_bytes GoodWant

@@ -1,10 +1,10 @@
 -- Reading the bytes of a table. Each number is tested as soon as it is read.
 use Rattle.std.specs.Prelude.{ℕ, zero, suc, List, [], ◌∷◌, ◌++◌, nat_le}
-use Rattle.octets.specs.Parse.{Got, Read, and_then, check, byte, word, ended}
+use Rattle.octets.specs.Parse.{Got, Read, and_then, check, byte, word, below, ended}
 use Rattle.packet.specs.Table.{Want, Setting, Rule, Table}
 
 abbrev pub field : List ℕ → Got ℕ
-field bs = and_then (byte bs) (λ f r. check (nat_le f 7) 2 f r)
+field bs = below 8 bs
 
 abbrev pub want : List ℕ → Got Want
 want bs = and_then (field bs) (λ f r. and_then (word r) (λ x q. Read (record { at = f; value = x }) q))

@@ -1,31 +1,18 @@
 -- What tables answers to an input.
---   read_as bytes input   the text that the input is, in the byte form or in the notation, or its fault
 --   Printed a out        the lines of the table of a
 --   NotPrinted a f       why it has none
 --   Answered, Rejected   the same of an input
-use Rattle.std.specs.Prelude.{◌≡◌, ℕ, ◌<◌, Bool, true, false, ◌⊎◌, List, [], None}
+use Rattle.std.specs.Prelude.{◌≡◌, ℕ, ◌<◌, ◌⊎◌, List, None}
 use Rattle.octets.specs.declared.fault.Fault.{Fault}
 use Rattle.octets.specs.declared.fault.Fault.TheVariants.{Memory}
 use Rattle.octets.specs.Faults.{number}
-use Rattle.octets.specs.Parse as parse
 use Rattle.packet.specs.Policy.{Policy}
-use Rattle.text.specs.Format.{Assignment, alone}
 use Rattle.text.specs.Trees.{meaning}
 use Rattle.notation.specs.declared.reader.Refusal.{Refusal}
-use Rattle.notation.specs.Notation.{Outcome, Whole, Refused, text_in}
+use Rattle.notation.specs.Notation.{Outcome, Whole, Refused}
 use Rattle.prescribed.specs.Table.{table_of}
 use Rattle.prescribed.specs.Fit.{fault_of}
 use Rattle.table.specs.Lines.{table_text}
-
--- of the byte form no line is at fault
-abbrev pub told : parse.Got Assignment → Outcome
-told (parse.Read a left) = Whole a.nodes
-told (parse.Bad n) = Refused n None
-
--- in the byte form a text is for one of 24 switches
-abbrev pub read_as : Bool → List ℕ → Outcome
-read_as false input = text_in [] input
-read_as true input = told (alone 24 input)
 
 abbrev pub Printed : Policy → List ℕ → Type 0
 Printed a out = (fault_of a ≡ 0) × (out ≡ table_text (table_of a))

@@ -2,6 +2,7 @@
 #![tactic(auto)]
 
 use answer::answer;
+use console::ending::{done, fail, unreadable};
 use console::{Asked, arguments, refusal};
 use std::io::Read;
 use std::process::ExitCode;
@@ -18,25 +19,12 @@ Reads a text from the file or standard input and prints its table, a rule to a l
   --help   prints this
 ";
 
-// Writes a line to standard error; the program is to end with status 1.
-fn fail(rt: &HostRuntime, line: String) -> io::Result<ExitCode> {
-    rt.eprintln(line)?;
-    Ok(ExitCode::FAILURE)
-}
-
-// Writes a text to standard output; the program is to end with status 0.
-fn done(rt: &HostRuntime, text: &str) -> io::Result<ExitCode> {
-    rt.print(text)?;
-    Ok(ExitCode::SUCCESS)
-}
-
 fn input(rt: &HostRuntime, file: Option<&String>) -> io::Result<Vec<u8>> {
     match file {
         Some(name) => fs::read(rt, name.as_str()),
         None => {
             let mut all = Vec::new(rt.alloc());
-            let mut stdin = rt.stdin();
-            stdin.read_to_end(&mut all)?;
+            rt.stdin().read_to_end(&mut all)?;
             Ok(all)
         }
     }
@@ -44,26 +32,23 @@ fn input(rt: &HostRuntime, file: Option<&String>) -> io::Result<Vec<u8>> {
 
 fn main(rt: HostRuntime) -> io::Result<ExitCode> {
     let heap = rt.alloc();
-    let mut words = Vec::new(heap);
-    for word in env::args(&rt)?.skip(1) {
-        words.push(word)?;
-    }
-    let (bytes, files) = match arguments::read(words.as_slice(), true) {
+    let words: Vec<String> = env::args(&rt)?.skip(1).collect(heap)?;
+    let (writing, file) = match arguments::read(words.as_slice(), true) {
         Asked::Help => return done(&rt, HELP),
-        Asked::Wrong => return fail(&rt, refusal::misused(heap, "tables", USAGE)?),
-        Asked::Run { bytes, files } => (bytes, files),
-    };
-    if words.len().saturating_sub(files) > 1 {
-        return fail(&rt, refusal::misused(heap, "tables", USAGE)?);
-    }
-    let Ok(all) = input(&rt, words.get(files)) else {
-        return fail(&rt, refusal::unreadable(heap, "tables", "the input")?);
-    };
-    match answer(heap, bytes, all.as_slice()) {
-        Ok(lines) => done(&rt, lines.as_str()),
-        Err(refusal) => {
-            let line = refusal::refused(heap, "tables", refusal.line, refusal.fault)?;
-            fail(&rt, line)
+        Asked::Run { writing, files: [] } => (writing, None),
+        Asked::Run {
+            writing,
+            files: [file],
+        } => (writing, Some(file)),
+        Asked::Run { .. } | Asked::Wrong => {
+            return fail(&rt, refusal::misused(heap, "tables", USAGE)?);
         }
+    };
+    let Ok(all) = input(&rt, file) else {
+        return unreadable(&rt, "tables", "the input");
+    };
+    match answer(heap, writing, all.as_slice()) {
+        Ok(lines) => done(&rt, lines.as_str()),
+        Err(refusal) => fail(&rt, refusal::refused(heap, "tables", refusal)?),
     }
 }

@@ -1,7 +1,7 @@
 -- Reading nodes: what is read fits, one node more, and the first node that is at fault.
-use Rattle.std.proofs.Common.{◌≡◌, ℕ, zero, suc, ◌+◌, ◌-◌, ◌<◌, true, eqb, leb, List, [], ◌∷◌, ◌++◌, length, sym, refl, ap, ◌∙◌, arith}
+use Rattle.std.proofs.Common.{◌≡◌, ℕ, zero, suc, ◌+◌, ◌-◌, ◌<◌, true, eqb, leb, ltb, List, [], ◌∷◌, ◌++◌, length, sym, refl, ap, ◌∙◌, arith}
 use Rattle.std.proofs.lemmas.List.{length_push}
-use Rattle.std.proofs.lemmas.Bool.{and_from}
+use Rattle.std.proofs.lemmas.Bool.{and_from, le-leb, ltb-true}
 use Rattle.octets.specs.Parse.{Read, Bad, and_then, check, byte, word}
 use Rattle.octets.proofs.Yields.{Yields, yields_read, yields_bad, yields_check, yields_cond, yields_then, yields_any}
 use Rattle.text.specs.declared.node.Node.{Node}
@@ -29,7 +29,8 @@ module _ (ns : List Node) where
   operand_fits want = yields_then (λ k. Unit {0}) _ word (λ k r. check (fitting want ns k) 3 k r) (yields_any word) (λ k h. yields_check _ _ 3 k (λ t. t))
 
   field_fits : Yields field (λ f. leb f 7 ≡ true)
-  field_fits = yields_then (λ k. Unit {0}) _ byte (λ f r. check (leb f 7) 2 f r) (yields_any byte) (λ f h. yields_check _ _ 2 f (λ t. t))
+  field_fits =
+      yields_then (λ k. Unit {0}) _ byte (λ f r. check (ltb f 8) 2 f r) (yields_any byte) (λ f h. yields_check _ (ltb f 8) 2 f (λ t. le-leb f 7 (omega (arith, ltb-true f 8 t))))
 
   valued_fits : (make : ℕ → ℕ → Node) → ((f x : ℕ) → leb f 7 ≡ true → fits ns (make f x) ≡ true) → Yields (valued make) (λ n. fits ns n ≡ true)
   valued_fits make h =

@@ -1,12 +1,13 @@
 -- Operands of a sound list of nodes, and one node more.
-use Rattle.std.proofs.Common.{◌≡◌, ℕ, zero, suc, ◌<◌, ◌≤◌, Bool, true, false, List, [], ◌∷◌, ◌++◌, length, get_or, take, sym, refl, ap, ◌∙◌, arith}
+use Rattle.std.proofs.Common.{◌≡◌, ℕ, zero, suc, ◌<◌, ◌≤◌, Bool, true, false, List, [], ◌∷◌, ◌++◌, length, get_or, take, Option, Some, None, IsSome, sym, refl, ap, ◌∙◌, arith}
 use Rattle.std.proofs.lemmas.List.{append-nil, append_assoc}
 use Rattle.std.proofs.lemmas.Bool.{and_parts, and_from, true≢false, lt-ltb}
 use Rattle.std.proofs.lemmas.Bool.Decides.{when_true}
 use Rattle.text.specs.declared.node.Node.{Node}
 use Rattle.text.specs.declared.node.Sort.{Sort}
+use Rattle.text.specs.declared.texts.Text.{Text}
 use Rattle.text.specs.Nodes.{sort_of, same_sort, fitting, fits, sound}
-use Rattle.text.specs.Texts.{Added}
+use Rattle.text.specs.Texts.{Added, Finished}
 
 pub fitting_past : (want : Sort) (ns : List Node) (k : ℕ) → length ns ≤ k → false ≡ fitting want ns k
 fitting_past want [] k h = refl
@@ -51,3 +52,8 @@ sound_at done (m ∷ ms) (suc k) d s h =
 -- a node that fits is added while there is room
 pub added_fitting : (n : Node) (ns ms : List Node) (r : Bool) → Added n ns r ms → length ns < 512 → fits ns n ≡ true → ms ≡ ns ++ n ∷ []
 added_fitting n ns ms r h room fit = when_true _ _ (h.0 ∙ and_from _ _ (lt-ltb _ _ room) fit) h.1
+
+-- a draft with a node is a text
+pub is_finished : (ns : List Node) (r : Option Text) → Finished ns r → 1 ≤ length ns → IsSome r
+is_finished ns (Some t) h some = search
+is_finished ns None h some = absurd (omega (arith, ap length h))

@@ -31,7 +31,7 @@ two_back want make ns a b rest h =
     rw (word_joined a, p.0, word_joined b, p.1)
 
 value_back : (make : ℕ → ℕ → Node) (f x : ℕ) (rest : List ℕ) → leb f 7 ≡ true → valued make (f ∷ (word_bytes x ++ rest)) ≡ Read (make f x) rest
-value_back make f x rest h = rw (h, word_joined x)
+value_back make f x rest h = rw (lt-ltb f 8 (omega (arith, leb-true f 7 h)), word_joined x)
 
 node_back : (ns : List Node) (n : Node) (rest : List ℕ) → fits ns n ≡ true → node ns (node_bytes n ++ rest) ≡ Read n rest
 node_back ns Always rest h = refl
@@ -107,7 +107,7 @@ Behind k n used = k ∷ used ≡ node_bytes n
 spells_valued : (k : ℕ) (make : ℕ → ℕ → Node) → ((f x : ℕ) → valued_bytes k f x ≡ node_bytes (make f x)) → Spells (valued make) (Behind k)
 spells_valued k make is =
     spells_then (λ f u. u ≡ f ∷ []) (λ f n w. k ∷ (f ∷ w) ≡ node_bytes n) _ field _
-    (λ f n u w p q. ap (λ l. k ∷ (l ++ w)) p ∙ q) (spells_tested (λ f. f ∷ []) byte (λ f. leb f 7) 2 spells_byte)
+    (λ f n u w p q. ap (λ l. k ∷ (l ++ w)) p ∙ q) (spells_tested (λ f. f ∷ []) byte (λ f. ltb f 8) 2 spells_byte)
     (λ f. spells_last (k ∷ (f ∷ [])) (make f) word (is f) spells_word)
 
 module _ (ns : List Node) where
@@ -196,7 +196,7 @@ writes_back n bs rest a clean e =
 -- No proper front of a text reads.
 streams_valued : (make : ℕ → ℕ → Node) → Streams (valued make)
 streams_valued make =
-    streams_then field _ (streams_then byte _ streams_byte (λ f. streams_check (leb f 7) 2 f)) (λ f. streams_then word _ streams_word (λ x. streams_read (make f x)))
+    streams_then field _ (streams_then byte _ streams_byte (λ f. streams_check (ltb f 8) 2 f)) (λ f. streams_then word _ streams_word (λ x. streams_read (make f x)))
 
 module _ (ns : List Node) where
   streams_operand : (want : Sort) → Streams (operand want ns)

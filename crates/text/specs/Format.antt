@@ -1,7 +1,7 @@
 -- The bytes of a text: its switch, the number of its nodes, the nodes.
 use Rattle.std.specs.Prelude.{ℕ, zero, suc, cond, ◌&&◌, List, [], ◌∷◌, ◌++◌, length, ◌==◌, nat_le, nat_lt}
 use Rattle.std.specs.List.{flat_map}
-use Rattle.octets.specs.Parse.{Got, Read, Bad, and_then, check, byte, word, ended, word_bytes}
+use Rattle.octets.specs.Parse.{Got, Read, Bad, and_then, check, byte, word, below, ended, word_bytes}
 use Rattle.text.specs.declared.node.Node.{Node}
 use Rattle.text.specs.declared.node.Node.TheVariants.{Always, Is, Both, Either, Not, Keep, Put, And, Then}
 use Rattle.text.specs.declared.node.Sort.{Sort}
@@ -10,7 +10,7 @@ use Rattle.text.specs.Nodes.{fitting}
 
 -- Reading. `ns` are the nodes before the one that is read.
 abbrev pub field : List ℕ → Got ℕ
-field bs = and_then (byte bs) (λ f r. check (nat_le f 7) 2 f r)
+field = below 8
 
 abbrev pub operand : Sort → List Node → List ℕ → Got ℕ
 operand want ns bs = and_then (word bs) (λ k r. check (fitting want ns k) 3 k r)

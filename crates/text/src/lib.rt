@@ -6,4 +6,4 @@ pub mod node;
 pub mod texts;
 
 pub use node::{Node, Sort};
-pub use texts::{Assigned, Draft, Text};
+pub use texts::{Assigned, Draft, MOST, Text};

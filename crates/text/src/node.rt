@@ -1,6 +1,6 @@
 // A node of a text. Its operands are the numbers of earlier nodes.
 ghost use Rattle.std.specs.Prelude.{◌≡◌};
-ghost use Rattle.text.specs.Nodes.{sort_of, same_sort};
+ghost use Rattle.text.specs.Nodes.{sort_of};
 
 #[derive(Clone, Copy, Debug, PartialEq, Eq)]
 pub enum Node {
@@ -17,7 +17,7 @@ pub enum Node {
     Then(u16, u16),
 }
 
-#[derive(Clone, Copy, Debug)]
+#[derive(Clone, Copy, Debug, PartialEq, Eq)]
 pub enum Sort {
     Test,
     Policy,
@@ -31,17 +31,6 @@ impl Node {
             Node::Always | Node::Is(_, _) | Node::Both(_, _) | Node::Either(_, _) | Node::Not(_) =>
                 Sort::Test,
             Node::Keep(_) | Node::Put(_, _) | Node::And(_, _) | Node::Then(_, _) => Sort::Policy,
-        }
-    }
-}
-
-impl Sort {
-    pub fn is(self, other: Sort) -> bool
-        ensures value { result ≡ same_sort self other }
-    {
-        match (self, other) {
-            (Sort::Test, Sort::Test) | (Sort::Policy, Sort::Policy) => true,
-            (Sort::Test, Sort::Policy) | (Sort::Policy, Sort::Test) => false,
         }
     }
 }

@@ -6,6 +6,9 @@ use crate::node::Node;
 
 mod edits;
 
+// The most nodes of a text.
+pub const MOST: usize = 512;
+
 // 1 to 512 nodes, each built from earlier ones of the right sort. The last is the text's meaning.
 #[derive(Drop)]
 pub struct Text {

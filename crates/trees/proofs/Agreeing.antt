@@ -40,8 +40,8 @@ Member c l = Memᴰ c l
 pub mem_none : (c : Packet) (l : List Packet) → l ≡ [] → Decides false (Member c l)
 mem_none c l e = subst (λ k. Decides false (Member c k)) (sym e) (refuted nothing_in)
 
-pub mem_here : (c x : Packet) (l more : List Packet) → l ≡ x ∷ more → x ≡ c → Decides true (Member c l)
-mem_here c x l more e same = subst (λ k. Decides true (Member c k)) (sym e) (granted (Memᴰ.head (sym same)))
+pub mem_here : (r : Bool) (c x : Packet) (l more : List Packet) → r ≡ true → l ≡ x ∷ more → x ≡ c → Decides r (Member c l)
+mem_here r c x l more so e same = rw so (subst (λ k. Decides true (Member c k)) (sym e) (granted (Memᴰ.head (sym same))))
 
 pub mem_rest : (r : Bool) (c x : Packet) (l more : List Packet) → l ≡ x ∷ more → (x ≡ c → ⊥) → Decides r (Member c more) → Decides r (Member c l)
 mem_rest r c x l more e other d =
@@ -57,8 +57,8 @@ All l k = (c : Packet) → Member c l → Member c k
 pub all_none : (l k : List Packet) → l ≡ [] → Decides true (All l k)
 all_none l k e = subst (λ m. Decides true (All m k)) (sym e) (granted (λ c m. absurd (nothing_in m)))
 
-pub all_miss : (x : Packet) (l more k : List Packet) → l ≡ x ∷ more → (Member x k → ⊥) → Decides false (All l k)
-all_miss x l more k e out = subst (λ m. Decides false (All m k)) (sym e) (refuted (λ all. out (all x (Memᴰ.head refl))))
+pub all_miss : (r : Bool) (x : Packet) (l more k : List Packet) → r ≡ false → l ≡ x ∷ more → (Member x k → ⊥) → Decides r (All l k)
+all_miss r x l more k so e out = rw so (subst (λ m. Decides false (All m k)) (sym e) (refuted (λ all. out (all x (Memᴰ.head refl)))))
 
 pub all_rest : (r : Bool) (x : Packet) (l more k : List Packet) → l ≡ x ∷ more → Member x k → Decides r (All more k) → Decides r (All l k)
 all_rest r x l more k e here d =

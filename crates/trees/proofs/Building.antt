@@ -1,7 +1,10 @@
 -- The trees of a list of nodes: one node more, and each by the trees of those that it is built from.
-use Rattle.std.proofs.Common.{◌≡◌, ℕ, zero, suc, ◌+◌, ◌<◌, ◌≤◌, true, ◌&&◌, ltb, List, [], ◌∷◌, ◌++◌, length, get_or, sym, refl, ap, ◌∙◌, subst, zero-add, arith, ltb-true}
+use Rattle.std.proofs.Common.{◌≡◌, ℕ, zero, suc, ◌+◌, ◌<◌, Bool, true, false, cond, ◌&&◌, ltb, List, [], ◌∷◌, ◌++◌, length, get_or, slice_get, Some, Ok, Err, Result, IfOk, OnErr, sym, refl, ap, ◌∙◌, subst, ⊎_elim, zero-add, arith, ltb-true}
 use Rattle.std.proofs.lemmas.List.{length_push, get_or_append_left, get_or_push, get_or_past}
-use Rattle.std.proofs.lemmas.Bool.{and_parts, and_from}
+use Rattle.std.proofs.lemmas.Bool.{and_parts, and_from, cases_lt}
+use Rattle.std.proofs.lemmas.Option.{slice_get_within, get_or_from_slice_get}
+use Rattle.std.specs.List.{list_any}
+use Rattle.indexmap.specs.IndexSet.{insert_key}
 use Rattle.trees.specs.declared.node.Node.{Node}
 use Rattle.trees.specs.declared.node.Node.TheVariants.{Nothing, Also, Test}
 use Rattle.trees.specs.Trees.{Tree, none, also, test}
@@ -54,12 +57,13 @@ build_at d (m ∷ ms) (suc i) o h =
     ap (λ k. get_or (build d' ms) k none) (omega arith)
     ∙ build_at d' ms i (ap (λ k. ordered k ms) longer ∙ (and_parts (is_over (length d) m) _ o).1) (omega arith)
 
-pub tree_at_lem : (ns : List Node) (k : ℕ) → ordered 0 ns ≡ true → k < length ns → tree_at ns k ≡ tree_of (trees ns) (get_or ns k Nothing)
-tree_at_lem ns k o h = ap (λ j. get_or (trees ns) j none) (sym (zero-add k)) ∙ build_at [] ns k o h
-
-pub tree_past : (ns : List Node) (k : ℕ) → length ns ≤ k → tree_at ns k ≡ tree_of (trees ns) Nothing
+pub tree_at_lem : (ns : List Node) (k : ℕ) → ordered 0 ns ≡ true → tree_at ns k ≡ tree_of (trees ns) (get_or ns k Nothing)
 unfolding tree_of
-tree_past ns k h = get_or_past (trees ns) k none (omega (arith, trees_length ns))
+tree_at_lem ns k o =
+    ⊎_elim
+    (λ l. ap (λ j. get_or (trees ns) j none) (sym (zero-add k)) ∙ build_at [] ns k o l)
+    (λ g. get_or_past (trees ns) k none (omega (arith, trees_length ns)) ∙ ap (tree_of (trees ns)) (sym (get_or_past ns k Nothing g)))
+    (cases_lt k (length ns))
 
 pub ordered_at : (k : ℕ) (ns : List Node) (i : ℕ) → ordered k ns ≡ true → i < length ns → is_over (k + i) (get_or ns i Nothing) ≡ true
 unfolding ordered
@@ -68,8 +72,12 @@ ordered_at k (n ∷ ns) zero o h = ap (λ j. is_over j n) (omega arith) ∙ (and
 ordered_at k (n ∷ ns) (suc i) o h =
     ap (λ j. is_over j (get_or ns i Nothing)) (omega arith) ∙ ordered_at (k + 1) ns i (and_parts (is_over k n) _ o).1 (omega arith)
 
-pub over_at : (ns : List Node) (k : ℕ) → ordered 0 ns ≡ true → k < length ns → is_over k (get_or ns k Nothing) ≡ true
-over_at ns k o h = ap (λ j. is_over j (get_or ns k Nothing)) (sym (zero-add k)) ∙ ordered_at 0 ns k o h
+pub over_at : (ns : List Node) (k : ℕ) → ordered 0 ns ≡ true → is_over k (get_or ns k Nothing) ≡ true
+over_at ns k o =
+    ⊎_elim
+    (λ l. ap (λ j. is_over j (get_or ns k Nothing)) (sym (zero-add k)) ∙ ordered_at 0 ns k o l)
+    (λ g. ap (is_over k) (get_or_past ns k Nothing g))
+    (cases_lt k (length ns))
 
 ordered_more : (k : ℕ) (ns : List Node) (n : Node) → ordered k ns ≡ true → is_over (k + length ns) n ≡ true → ordered k (ns ++ n ∷ []) ≡ true
 unfolding ordered
@@ -98,22 +106,35 @@ kept_push ns n =
           ∙ get_or_append_left (trees ns) (tree_of (trees ns) n ∷ []) none k (omega (arith, trees_length ns));
     }
 
--- a node that is there already, and one that was added
-pub stands_found : (ns : List Node) (k : ℕ) (n : Node) → ordered 0 ns ≡ true → k < length ns → get_or ns k Nothing ≡ n → Stands ns k (tree_of (trees ns) n)
-stands_found ns k n o h e = record { there = h; tree = tree_at_lem ns k o h ∙ ap (tree_of (trees ns)) e }
+-- a node that is put into the set of nodes: it is there already, or comes last
+module _ (eq : Node → Node → Bool) (ns : List Node) (n : Node) (o : ordered 0 ns ≡ true) (h : is_over (length ns) n ≡ true) where
+  put_cases : (P : List Node → Type 0) → P ns → P (ns ++ n ∷ []) → P (insert_key eq ns n)
+  put_cases P old new = elim (list_any (eq n) ns) as (λ b. P (cond b ns (ns ++ n ∷ []))) [ true ↦ old | false ↦ new ]
 
-pub stands_pushed : (ns : List Node) (n : Node) → Stands (ns ++ n ∷ []) (length ns) (tree_of (trees ns) n)
-stands_pushed ns n =
-    record {
-      there = omega (arith, length_push ns n);
-      tree = ap (λ ts. get_or ts (length ns) none) (build_push [] ns n) ∙ get_or_push (trees ns) (tree_of (trees ns) n) none (length ns) (trees_length ns);
-    }
+  ordered_put : ordered 0 (insert_key eq ns n) ≡ true
+  ordered_put = put_cases (λ ms. ordered 0 ms ≡ true) o (ordered_push ns n o h)
 
-pub pushed : (ns ms : List Node) (n : Node) (k : ℕ) → ms ≡ ns ++ n ∷ [] → k ≡ length ns → Kept ns ms × Stands ms k (tree_of (trees ns) n)
-pushed ns ms n k e l = (
-  subst (Kept ns) (sym e) (kept_push ns n),
-  subst (λ xs. Stands xs k (tree_of (trees ns) n)) (sym e) (subst (λ j. Stands (ns ++ n ∷ []) j (tree_of (trees ns) n)) (sym l) (stands_pushed ns n)),
-)
+  -- where there was memory for it, and where not
+  pub ordered_after : {X Y : Type 0} (ms : List Node) (r : Result X Y) → IfOk r (λ _. ms ≡ insert_key eq ns n) → OnErr r (ms ≡ ns) → ordered 0 ms ≡ true
+  ordered_after ms (Ok x) e _ = ap (ordered 0) e ∙ ordered_put
+  ordered_after ms (Err y) _ e = ap (ordered 0) e ∙ o
+
+  kept_put : Kept ns (insert_key eq ns n)
+  kept_put = put_cases (Kept ns) (kept_all ns) (kept_push ns n)
+
+  -- it stands where an equal one is found
+  pub put : (ms : List Node) (k : ℕ) (m : Node) → ms ≡ insert_key eq ns n → slice_get ms k ≡ Some m → n ≡ m → Kept ns ms × Stands ms k (tree_of (trees ns) n)
+  put ms k m e at same =
+      let kept : Kept ns ms = subst (Kept ns) (sym e) kept_put in (
+        kept,
+        record {
+          there = slice_get_within ms k m at;
+          tree =
+              tree_at_lem ms k (ap (ordered 0) e ∙ ordered_put)
+              ∙ ap (tree_of (trees ms)) (get_or_from_slice_get ms k m Nothing at ∙ sym same)
+              ∙ tree_like (length ns) n (trees ms) (trees ns) h kept.same;
+        },
+      )
 
 -- what a node is built from has smaller numbers
 pub over_test : (m u k : ℕ) → (ltb m k && ltb u k) ≡ true → (m < k) × (u < k)

@@ -1,4 +1,5 @@
 pub mod Applied
+pub mod Equal
 pub mod Building
 pub mod Alikes
 pub mod Inserting

@@ -1,5 +1,6 @@
 -- Values that are marked, and trees that do not name a value that isn't.
-use Rattle.std.proofs.Common.{◌≡◌, ℕ, zero, suc, ◌<◌, ◌≤◌, Bool, true, false, eqb, ◌≢◌, ◌⊎◌, List, [], ◌∷◌, ◌++◌, length, get_or, take, set, Some, None, Option, sym, ap, ◌∙◌, subst, ⊎_elim, arith, eq-eqb}
+use Rattle.std.proofs.Common.{◌≡◌, ℕ, zero, suc, ◌+◌, ◌<◌, ◌≤◌, Bool, true, false, eqb, ◌≢◌, ◌⊎◌, List, [], ◌∷◌, ◌++◌, length, get_or, take, set, Some, None, Option, sym, ap, ◌∙◌, subst, ⊎_elim, arith, eq-eqb}
+use borrow.Author.Count.{below_more}
 use Rattle.std.proofs.lemmas.List.{get_or-set_same, get_or-set_other, set_past, take_at}
 use Rattle.std.proofs.lemmas.Bool.{true≢false, cases_eq, cases_lt, cond-true}
 use Rattle.trees.specs.declared.node.Node.{Node}
@@ -21,6 +22,16 @@ marks_more (Some y) ms x h =
   where
     within : (a b : ℕ) → (a < b) ⊎ (b ≤ a)
     within a b = cases_lt a b
+
+-- one node more, which names a value or none
+module _ (f i : ℕ) (ns : List Node) (ms : List Bool) (so : (k : ℕ) → k < i → Marks (named_by f (get_or ns k Nothing)) ms) where
+  pub marked_some : (x : ℕ) → named_by f (get_or ns i Nothing) ≡ Some x → x < length ms → (k : ℕ) → k < i + 1 → Marks (named_by f (get_or ns k Nothing)) (set ms x true)
+  marked_some x e l =
+      below_more (λ k. Marks (named_by f (get_or ns k Nothing)) (set ms x true)) i (λ k h. marks_more _ ms x (so k h))
+      (subst (λ v. Marks v (set ms x true)) (sym e) (get_or-set_same ms x true true l))
+
+  pub marked_none : named_by f (get_or ns i Nothing) ≡ None → (k : ℕ) → k < i + 1 → Marks (named_by f (get_or ns k Nothing)) ms
+  marked_none e = below_more (λ k. Marks (named_by f (get_or ns k Nothing)) ms) i so (subst (λ v. Marks v ms) (sym e) tt)
 
 pub marked_take : (f : ℕ) (ns : List Node) (ms more : List Bool) (n : ℕ) → length ms ≡ n → Marked f ns ms → Marked f ns (take n (ms ++ more))
 marked_take f ns ms more n e h = subst (Marked f ns) (sym (take_at ms more n e)) h

@@ -2,14 +2,15 @@
 use Rattle.std.proofs.Common.{◌≡◌, ℕ, zero, suc, ◌<◌, Bool, true, false, cond, eqb, ◌≢◌, List, [], ◌∷◌, map, length, get_or, set, Some, None, Option, sym, refl, ap, ◌∙◌, subst, ⊎_elim, arith, eq-eqb, ne_eqb}
 use Rattle.std.proofs.lemmas.List.{get_or-set_same, get_or-set_other, set-set, set-get_or, length-set}
 use Rattle.std.proofs.lemmas.Bool.{cases_eq, cond-true, cond-false}
+use Rattle.std.specs.Option.{unwrap_or}
 use Rattle.packet.specs.Packet.{Packet, put, field}
-use Rattle.trees.specs.Outs.{Out, value_by, applied}
+use Rattle.trees.specs.Outs.{Out, applied}
 use Rattle.trees.specs.Trees.{Tree, none, also, test, copies_by, Alike}
 use Rattle.trees.specs.Names.{Unnamed}
 use Rattle.trees.proofs.Applied.{none_some}
 use Rattle.trees.proofs.Alikes.{set_map, set_is, set_then, set_back}
 
-applied_field : (o : Out) (p : Packet) (f : ℕ) → f < length p → field f (applied o p) ≡ value_by (get_or o f None) (field f p)
+applied_field : (o : Out) (p : Packet) (f : ℕ) → f < length p → field f (applied o p) ≡ unwrap_or (get_or o f None) (field f p)
 unfolding applied
 applied_field [] p f h = refl
 applied_field (v ∷ o) [] f h = absurd (omega arith)
@@ -21,16 +22,16 @@ unfolding applied
 put_kept [] p f y e = refl
 put_kept (v ∷ o) [] zero y e = refl
 put_kept (v ∷ o) [] (suc f) y e = refl
-put_kept (v ∷ o) (x ∷ p) zero y e = ap (λ w. w ∷ applied o p) (ap (λ w. value_by w y) e)
-put_kept (v ∷ o) (x ∷ p) (suc f) y e = ap (λ l. value_by v x ∷ l) (put_kept o p f y e)
+put_kept (v ∷ o) (x ∷ p) zero y e = ap (λ w. w ∷ applied o p) (ap (λ w. unwrap_or w y) e)
+put_kept (v ∷ o) (x ∷ p) (suc f) y e = ap (λ l. unwrap_or v x ∷ l) (put_kept o p f y e)
 
 put_set : (o : Out) (p : Packet) (f y w : ℕ) → get_or o f None ≡ Some w → applied o (put f y p) ≡ applied o p
 unfolding applied
 put_set [] p f y w e = absurd (none_some e)
 put_set (v ∷ o) [] zero y w e = refl
 put_set (v ∷ o) [] (suc f) y w e = refl
-put_set (v ∷ o) (x ∷ p) zero y w e = ap (λ u. u ∷ applied o p) (ap (λ u. value_by u y) e ∙ sym (ap (λ u. value_by u x) e))
-put_set (v ∷ o) (x ∷ p) (suc f) y w e = ap (λ l. value_by v x ∷ l) (put_set o p f y w e)
+put_set (v ∷ o) (x ∷ p) zero y w e = ap (λ u. u ∷ applied o p) (ap (λ u. unwrap_or u y) e ∙ sym (ap (λ u. unwrap_or u x) e))
+put_set (v ∷ o) (x ∷ p) (suc f) y w e = ap (λ l. unwrap_or v x ∷ l) (put_set o p f y w e)
 
 -- a copy in which the field has the value z gets y there
 moved : ℕ → ℕ → ℕ → Packet → Packet
@@ -42,10 +43,10 @@ module _ (f z y : ℕ) (p : Packet) (low : f < length p) (is : field f p ≡ z) 
   unfolding moved
   moved_applied o None e out =
       put_kept o p f y e
-      ∙ sym (cond-true _ _ _ (eq-eqb (field f (applied o p)) z (applied_field o p f low ∙ ap (λ v. value_by v (field f p)) e ∙ is)))
+      ∙ sym (cond-true _ _ _ (eq-eqb (field f (applied o p)) z (applied_field o p f low ∙ ap (λ v. unwrap_or v (field f p)) e ∙ is)))
   moved_applied o (Some w) e out =
       put_set o p f y w e
-      ∙ sym (cond-false _ _ _ (ne_eqb (field f (applied o p)) z (λ q. out (e ∙ ap Some (sym (applied_field o p f low ∙ ap (λ v. value_by v (field f p)) e) ∙ q)))))
+      ∙ sym (cond-false _ _ _ (ne_eqb (field f (applied o p)) z (λ q. out (e ∙ ap Some (sym (applied_field o p f low ∙ ap (λ v. unwrap_or v (field f p)) e) ∙ q)))))
 
   same_test : (g x : ℕ) → (g ≡ f → x ≡ y → ⊥) → (g ≡ f → x ≡ z → ⊥) → eqb (field g (put f y p)) x ≡ eqb (field g p) x
   same_test g x ny nz =

@@ -1,22 +1,19 @@
 -- From the values of one field to all packets, and from one field to the next.
-use Rattle.std.proofs.Common.{◌≡◌, ℕ, zero, suc, ◌+◌, ◌<◌, ◌≤◌, Bool, true, false, not, ◌||◌, ◌≢◌, ◌⊎◌, List, [], ◌∷◌, length, get_or, take, set, replicate, Some, None, Option, sym, refl, ap, ◌∙◌, subst, inl, inr, ⊎_elim, arith}
-use Rattle.std.proofs.lemmas.List.{get_or-set_same, get_or-set_other, get_or-take, length-set, set_past, take_all, take-set, take-take, take_more_same, get_or_read}
-use Rattle.std.proofs.lemmas.Bool.{cases_eq, cases_lt, true≢false}
+use Rattle.std.proofs.Common.{◌≡◌, ℕ, ◌+◌, ◌<◌, ◌≤◌, Bool, true, false, ◌||◌, ◌≢◌, ◌⊎◌, List, length, get_or, take, set, Some, None, Option, sym, refl, ap, ◌∙◌, subst, inl, inr, ⊎_elim, arith}
+use Rattle.std.proofs.lemmas.List.{get_or-set_same, get_or-set_other, get_or-take, length-set, set_past, take_all, take-set, take-take, take_more_same, get_or_default}
+use Rattle.std.proofs.lemmas.Bool.{cases_eq, cases_lt}
 use Rattle.packet.specs.Packet.{Packet, IsPacket, put, field, Before}
-use Rattle.packet.specs.declared.Packet as code
+use Rattle.packet.specs.declared.packets.Packet as code
 use Rattle.trees.specs.declared.node.Node.{Node}
-use Rattle.trees.specs.Trees.{Tree, copies_by, Alike}
+use Rattle.trees.specs.Trees.{Tree, Alike}
 use Rattle.trees.specs.Nodes.{tree_at, Kept}
 use Rattle.trees.specs.Names.{Unnamed}
 use Rattle.trees.specs.Stores.{Given}
 use Rattle.trees.specs.Search.{Everywhere, FirstAt, Settled}
 use Rattle.trees.specs.Walking.{Stood, Walked}
-use Rattle.trees.proofs.Alikes.{set_all, set_then, set_back}
+use Rattle.trees.proofs.Alikes.{set_then, set_back}
 use Rattle.trees.proofs.Giving.{kept_copies}
 use Rattle.trees.proofs.Moving.{alike_moved}
-
-pub settled_same : (a b : Tree) (f : ℕ) (q : Packet) → a ≡ b → Everywhere a b f q
-settled_same a b f q e p is same = subst (λ t. Alike a t p) e (set_all (copies_by a p))
 
 -- all fields are fixed: there is one packet
 only : (f : ℕ) (p q : Packet) → 8 ≤ f → length p ≡ 8 → length q ≡ 8 → take f p ≡ take f q → p ≡ q
@@ -78,12 +75,8 @@ settled_kept ns ms a b f q r k la lb s =
     subst (λ t. Settled (tree_at ns a) t f q r) (k.same b lb) (subst (λ t. Settled t (tree_at ms b) f q r) (k.same a la) s)
 
 -- a value that is read from the marks
-pub read_unmarked : (ms : List Bool) (x : ℕ) (v : Bool) → x < length ms → v ≡ get_or ms x v → not v ≡ true → get_or ms x true ≡ false
-read_unmarked ms x v l e h = sym (get_or_read ms x v l e true) ∙ flipped v h
-  where
-    flipped : (b : Bool) → not b ≡ true → b ≡ false
-    flipped true h = absurd (true≢false (sym h))
-    flipped false h = refl
+pub read_unmarked : (ms : List Bool) (x : ℕ) → x < length ms → get_or ms x false ≡ false → get_or ms x true ≡ false
+read_unmarked ms x l h = get_or_default ms x true false l ∙ h
 
 above : (n m : ℕ) → m ≤ n → (n ≡ m → ⊥) → m < n
 above n m h ne = ⊎_elim (λ l. absurd (omega arith)) (λ g. ⊎_elim (λ l. l) (λ k. absurd (ne (omega arith))) (cases_lt m n)) (cases_lt n m)
@@ -104,22 +97,8 @@ put_packet f x p small is =
           (cases_eq g f);
     }
 
-pub zeros_packet : IsPacket (0 ∷ (0 ∷ (0 ∷ (0 ∷ (0 ∷ (0 ∷ (0 ∷ (0 ∷ []))))))))
-zeros_packet = record { eight = refl; small = λ f. subst (λ v. v < 65536) (sym (zeros 8 f)) (omega arith) }
-  where
-    zeros : (n f : ℕ) → ◌≡◌ {A = ℕ} (get_or (replicate n 0) f 0) 0
-    zeros zero f = refl
-    zeros (suc n) zero = refl
-    zeros (suc n) (suc f) = zeros n f
-
 -- one value after the other
 module _ (a b : Tree) (f : ℕ) (q : Packet) (ms : List Bool) (low : f < 8) (eight : length q ≡ 8) where
-  pub walked_none : Walked a b f q ms 0 false
-  walked_none = record { same = λ p is e less. absurd (omega arith); like = tt }
-
-  pub walked_all : (x : ℕ) (stood : Bool) → 65536 ≤ x → Walked a b f q ms x stood → Everywhere a b f q
-  walked_all x stood h w = λ p is e. w.same p is e (omega (arith, is.small f))
-
   -- up to x, if x is settled
   up_to : (x : ℕ) (stood : Bool) → Walked a b f q ms x stood → ((p : Packet) → IsPacket p → take f p ≡ take f q → field f p ≡ x → Alike a b p) →
       (p : Packet) → IsPacket p → take f p ≡ take f q → field f p < x + 1 → Alike a b p

@@ -4,4 +4,5 @@ pub mod Nodes
 pub mod Names
 pub mod Stores
 pub mod Search
+pub mod Stages
 pub mod Walking

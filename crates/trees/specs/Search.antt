@@ -2,7 +2,7 @@
 use Rattle.std.specs.Prelude.{◌≡◌, ℕ, ◌<◌, Bool, true, List, length, take, Some, None, Option, slice_index_or}
 use mathlib.Core.List.{Memᴰ}
 use Rattle.packet.specs.Packet.{Packet, IsPacket, Before}
-use Rattle.packet.specs.declared.Packet as code
+use Rattle.packet.specs.declared.packets.Packet as code
 use Rattle.trees.specs.declared.node.Node.{Node}
 use Rattle.trees.specs.declared.node.Node.TheVariants.{Nothing}
 use Rattle.trees.specs.Trees.{Tree, copies_by, Alike}

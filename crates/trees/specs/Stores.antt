@@ -1,7 +1,7 @@
 -- What a store answers.
 --   nodes_of s        the nodes of a store
 --   Stands ns k t    node k stands for the tree t
-use Rattle.std.specs.Prelude.{◌≡◌, ℕ, ◌<◌, List, ◌∷◌, length, vec_items}
+use Rattle.std.specs.Prelude.{◌≡◌, ℕ, ◌<◌, List, ◌∷◌, length}
 use Rattle.trees.specs.declared.node.Node.{Node}
 use Rattle.trees.specs.declared.store.Trees.{Trees}
 use Rattle.packet.specs.Packet.{Packet, SameSet, field}
@@ -11,7 +11,7 @@ use Rattle.trees.specs.Trees.{Tree, test, copies_by, Alike}
 use Rattle.trees.specs.Nodes.{tree_at}
 
 abbrev pub nodes_of : Trees → List Node
-nodes_of s = vec_items s.nodes
+nodes_of s = s.nodes.keys
 
 pub record Stands (ns : List Node) (k : ℕ) (t : Tree) : Type 0 where
   pub there : k < length ns

@@ -18,12 +18,7 @@ impl Trees {
     {
         match self.node(t) {
             Node::Nothing => false,
-            Node::Also { out, rest } => {
-                if out.apply(p) == c {
-                    return true;
-                }
-                self.gives(rest, c, p)
-            }
+            Node::Also { out, rest } => out.apply(p) == c || self.gives(rest, c, p),
             Node::Test {
                 field,
                 value,
@@ -40,10 +35,7 @@ impl Trees {
         match self.node(s) {
             Node::Nothing => true,
             Node::Also { out, rest } => {
-                if !self.gives(t, out.apply(p), p) {
-                    return false;
-                }
-                self.is_within(rest, t, p)
+                self.gives(t, out.apply(p), p) && self.is_within(rest, t, p)
             }
             Node::Test {
                 field,
@@ -58,9 +50,6 @@ impl Trees {
     pub(crate) fn agree(&self, a: usize, b: usize, p: Packet) -> bool
         ensures test { Decides result (Alike (tree_at (nodes_of self.now) a) (tree_at (nodes_of self.now) b) p.fields) }
     {
-        if !self.is_within(a, b, p) {
-            return false;
-        }
-        self.is_within(b, a, p)
+        self.is_within(a, b, p) && self.is_within(b, a, p)
     }
 }

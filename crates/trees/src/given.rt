@@ -29,7 +29,7 @@ impl Trees {
             Node::Also { out, rest } => {
                 let less = self.given(rest, f, x, depth)?;
                 let kept = out.without(f, x);
-                if less == rest && kept.is(out) {
+                if less == rest && kept == out {
                     return Ok(t);
                 }
                 self.insert(kept, less)

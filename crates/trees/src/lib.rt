@@ -2,12 +2,12 @@
 #![tactic(auto)]
 
 mod agree;
-mod find;
 mod given;
 pub mod node;
 pub mod out;
 mod search;
 mod sets;
+mod stage;
 pub mod store;
 mod tables;
 

@@ -1,7 +1,7 @@
 // The nodes that trees are made of.
 use crate::out::Out;
 
-#[derive(Clone, Copy)]
+#[derive(Clone, Copy, Debug, PartialEq, Eq, Hash)]
 pub enum Node {
     // No outs.
     Nothing,

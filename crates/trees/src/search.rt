@@ -1,118 +1,93 @@
 // The smallest packet of which two trees give different copies, field by field and smaller values first.
-ghost use Rattle.std.specs.Prelude.{◌≡◌, ◌+◌, ◌<◌, ◌||◌, [], ◌∷◌, length, IfOk};
-ghost use Rattle.packet.specs.Packet.{IsPacket, put};
+ghost use Rattle.std.specs.Prelude.{◌≡◌, ◌+◌, ◌<◌, [], ◌∷◌, length, IfOk};
+ghost use Rattle.packet.specs.Packet.{put};
 ghost use Rattle.trees.specs.Nodes.{tree_at, Kept};
 ghost use Rattle.trees.specs.Search.{Settled};
+ghost use Rattle.trees.specs.Stages.{There, SettledIn};
 ghost use Rattle.trees.specs.Stores.{nodes_of};
 
 use crate::given::DEPTH;
+use crate::stage::Stage;
 use crate::store::Trees;
-use crate::store::marks::VALUES;
 use packet::Packet;
-use std::alloc::{AllocError, Global};
-
-fn either(a: bool, b: bool) -> bool
-    ensures value { result ≡ (a || b) }
-{
-    a || b
-}
+use std::alloc::AllocError;
 
 impl Trees {
-    // Among the packets whose fields below f are those of q. Equal trees are settled at once.
+    // Equal trees are settled at once.
     #[cycle(settle_settle_at_walk)]
-    fn settle(
-        &mut self,
-        heap: Global,
-        a: usize,
-        b: usize,
-        f: u8,
-        q: Packet,
-    ) -> Result<Option<Packet>, AllocError>
-        requires first { a < length (nodes_of self.old) }
-        requires second { b < length (nodes_of self.old) }
-        requires packet { IsPacket q.fields }
+    fn settle(&mut self, at: Stage) -> Result<Option<Packet>, AllocError>
+        requires there { There (nodes_of self.old) at }
         ensures kept { Kept (nodes_of self.old) (nodes_of self.new) }
-        ensures made { IfOk result (Settled (tree_at (nodes_of self.old) a) (tree_at (nodes_of self.old) b) f q.fields) }
+        ensures made { IfOk result (SettledIn (nodes_of self.old) at) }
     {
-        if a == b {
+        if at.first == at.second {
             return Ok(None);
         }
-        if f < 8 {
-            return self.walk(heap, a, b, f, q);
+        if at.field < 8 {
+            return self.walk(at);
         }
-        if self.agree(a, b, q) {
+        if self.agree(at.first, at.second, at.packet) {
             Ok(None)
         } else {
-            Ok(Some(q))
+            Ok(Some(at.packet))
         }
     }
 
-    // The same, where besides the field f has the value x.
+    // The same, where the field has the value x.
     #[cycle(settle_settle_at_walk)]
-    fn settle_at(
-        &mut self,
-        heap: Global,
-        a: usize,
-        b: usize,
-        f: u8,
-        x: u16,
-        q: Packet,
-    ) -> Result<Option<Packet>, AllocError>
-        requires first { a < length (nodes_of self.old) }
-        requires second { b < length (nodes_of self.old) }
-        requires packet { IsPacket q.fields }
-        requires low { f < 8 }
+    fn settle_at(&mut self, at: Stage, x: u16) -> Result<Option<Packet>, AllocError>
+        requires there { There (nodes_of self.old) at }
+        requires low { at.field < 8 }
         ensures kept { Kept (nodes_of self.old) (nodes_of self.new) }
-        ensures made { IfOk result (Settled (tree_at (nodes_of self.old) a) (tree_at (nodes_of self.old) b) (f + 1) (put f x q.fields)) }
+        ensures made { IfOk result (Settled (tree_at (nodes_of self.old) at.first) (tree_at (nodes_of self.old) at.second) (at.field + 1) (put at.field x at.packet.fields)) }
     {
-        let first = self.given(a, f, x, DEPTH)?;
-        let second = self.given(b, f, x, DEPTH)?;
-        self.settle(heap, first, second, f + 1, q.put(f, x))
+        let first = self.given(at.first, at.field, x, DEPTH)?;
+        let second = self.given(at.second, at.field, x, DEPTH)?;
+        self.settle(Stage {
+            first,
+            second,
+            field: at.field + 1,
+            packet: at.packet.put(at.field, x),
+        })
     }
 
-    // Goes over the values of the field f. Of those that are named nowhere the smallest stands for all.
+    // Goes over the values of the field. Of those that are named nowhere the smallest stands for all.
     #[cycle(settle_settle_at_walk)]
-    fn walk(
-        &mut self,
-        heap: Global,
-        a: usize,
-        b: usize,
-        f: u8,
-        q: Packet,
-    ) -> Result<Option<Packet>, AllocError>
-        requires first { a < length (nodes_of self.old) }
-        requires second { b < length (nodes_of self.old) }
-        requires packet { IsPacket q.fields }
-        requires low { f < 8 }
+    fn walk(&mut self, at: Stage) -> Result<Option<Packet>, AllocError>
+        requires there { There (nodes_of self.old) at }
+        requires low { at.field < 8 }
         ensures kept { Kept (nodes_of self.old) (nodes_of self.new) }
-        ensures made { IfOk result (Settled (tree_at (nodes_of self.old) a) (tree_at (nodes_of self.old) b) f q.fields) }
+        ensures made { IfOk result (SettledIn (nodes_of self.old) at) }
     {
-        let marks = self.marks(heap, f)?;
+        let marks = self.marks(at.field)?;
         let mut stood = false;
-        for x in 0..VALUES {
-            let unnamed = !marks[x];
-            if unnamed && stood {
+        for (x, named) in marks.iter().enumerate() {
+            if !*named && stood {
                 continue;
             }
-            if let Some(found) = self.settle_at(heap, a, b, f, x as u16, q)? {
+            if let Some(found) = self.settle_at(at, x as u16)? {
                 return Ok(Some(found));
             }
-            stood = either(stood, unnamed);
+            stood |= !*named;
         }
         Ok(None)
     }
 
-    // The smallest packet of which the trees a and b give different copies.
+    // The smallest packet of which the trees give different copies.
     pub fn first_difference(
         &mut self,
-        heap: Global,
-        a: usize,
-        b: usize,
+        first: usize,
+        second: usize,
     ) -> Result<Option<Packet>, AllocError>
-        requires first { a < length (nodes_of self.old) }
-        requires second { b < length (nodes_of self.old) }
-        ensures made { IfOk result (Settled (tree_at (nodes_of self.old) a) (tree_at (nodes_of self.old) b) 0 (0 ∷ (0 ∷ (0 ∷ (0 ∷ (0 ∷ (0 ∷ (0 ∷ (0 ∷ []))))))))) }
+        requires first { first < length (nodes_of self.old) }
+        requires second { second < length (nodes_of self.old) }
+        ensures made { IfOk result (Settled (tree_at (nodes_of self.old) first) (tree_at (nodes_of self.old) second) 0 (0 ∷ (0 ∷ (0 ∷ (0 ∷ (0 ∷ (0 ∷ (0 ∷ (0 ∷ []))))))))) }
     {
-        self.settle(heap, a, b, 0, Packet { fields: [0; 8] })
+        self.settle(Stage {
+            first,
+            second,
+            field: 0,
+            packet: Packet::default(),
+        })
     }
 }

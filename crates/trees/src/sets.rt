@@ -16,10 +16,10 @@ impl Trees {
         ensures made { IfOk result (Inserted (nodes_of self.old) (nodes_of self.new) out.sets t) }
     {
         if let Node::Also { out: first, rest } = self.node(t) {
-            if out.is(first) {
+            if out == first {
                 return Ok(t);
             }
-            if first.is_before(out) {
+            if first < out {
                 let more = self.insert(out, rest)?;
                 return self.keep(Node::Also {
                     out: first,

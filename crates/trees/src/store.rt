@@ -3,14 +3,14 @@ ghost use Rattle.std.specs.Prelude.{◌≡◌, true};
 ghost use Rattle.trees.specs.Nodes.{ordered};
 
 use crate::node::Node;
+use indexmap::IndexSet;
 
 mod keeps;
-pub(crate) mod marks;
+mod marks;
 
-// Trees go by the numbers of their nodes. `slots` says where a node may be found again.
+// Trees go by the numbers of their nodes: a tree is kept once, others share it, and equal ones are told by their numbers.
 #[derive(Drop)]
 pub struct Trees {
-    nodes: Vec<Node>,
-    slots: Vec<Option<usize>>,
-    ghost ordered: { ordered 0 nodes.items ≡ true },
+    nodes: IndexSet<Node>,
+    ghost ordered: { ordered 0 nodes.keys ≡ true },
 }

@@ -1,55 +1,44 @@
 -- A board that is changed at one place.
-use Rattle.std.proofs.Common.{◌≡◌, ℕ, zero, suc, ◌+◌, ◌*◌, ◌<◌, Bool, true, false, cond, ◌&&◌, eqb, ltb, ◌≢◌, List, length, get_or, set, replicate, sym, refl, ap, ◌∙◌, ⊎_elim, arith}
+use Rattle.std.proofs.Common.{◌≡◌, ℕ, zero, suc, ◌<◌, cond, ◌&&◌, eqb, List, [], length, get_or, set, replicate, sym, refl, ap, ◌∙◌, ⊎_elim}
 use Rattle.std.proofs.lemmas.List.{get_or-set_same, get_or-set_other}
-use Rattle.std.proofs.lemmas.Bool.{cases_Bool, and_parts, and_from, and_cases, eqb-true, eqb-false, eq-eqb, ltb-true, lt-ltb, cond-true, cond-false}
+use Rattle.std.proofs.lemmas.Bool.{cases_Bool, and_from, eqb-true, eqb-false, eq-eqb, cond-true, cond-false}
 use Rattle.wire.specs.declared.board.Wire.{Wire}
 use Rattle.wire.specs.declared.board.Wire.TheVariants.{Nothing}
 use Rattle.wire.specs.Wires.{Wires, bare, put, wires_of}
 
-get_d_bare : (n k : ℕ) → get_or (replicate n Nothing) k Nothing ≡ Nothing
-get_d_bare zero k = refl
-get_d_bare (suc n) zero = refl
-get_d_bare (suc n) (suc k) = get_d_bare n k
+get_same : {A : Type 0} (n k : ℕ) (x y : A) (P : A → Type 0) → P x → P y → P (get_or (replicate n x) k y)
+get_same zero k x y P px py = py
+get_same (suc n) zero x y P px py = px
+get_same (suc n) (suc k) x y P px py = get_same n k x y P px py
 
-cond_same : {A : Type 0} (t : Bool) (x y z : A) → (t ≡ true → x ≡ y) → cond t x z ≡ cond t y z
-cond_same true x y z e = e refl
-cond_same false x y z e = refl
-
-either_same : {A : Type 0} (t : Bool) (x : A) → cond t x x ≡ x
-either_same true x = refl
-either_same false x = refl
-
-pub bare_board : wires_of (record { wires = replicate 768 Nothing }) ≡ bare
+pub bare_board : wires_of (record { wires = replicate 24 (replicate 32 Nothing) }) ≡ bare
 bare_board z i p =
-    (cond_same (ltb i 24 && ltb p 32) _ Nothing Nothing (λ _. get_d_bare 768 (i * 32 + p)) ∙ either_same (ltb i 24 && ltb p 32) Nothing) z
+    get_same 24 i (replicate 32 Nothing) [] (λ ws. get_or ws p Nothing ≡ Nothing)
+    (get_same 32 p Nothing Nothing (λ w. w ≡ Nothing) refl refl) refl z
 
 pub put_here : (i p : ℕ) (x : Wire) (w : Wires) → put i p x w i p ≡ x
 put_here i p x w = cond-true (eqb i i && eqb p p) x (w i p) (and_from (eqb i i) (eqb p p) (eq-eqb i i refl) (eq-eqb p p refl))
 
--- two places are one only for one port
-apart : (i p j q : ℕ) → p < 32 → q < 32 → (eqb j i && eqb q p) ≡ false → j * 32 + q ≢ i * 32 + p
-apart i p j q lp lq f e =
-    ⊎_elim (λ n. eqb-false j i n (omega (arith, e))) (λ n. eqb-false q p n (omega (arith, e))) (and_cases (eqb j i) (eqb q p) f)
+module _ (ws : List (List Wire)) (i p : ℕ) (x : Wire) (li : i < length ws) (lp : p < length (get_or ws i [])) where
+  abbrev row : List Wire
+  row = set (get_or ws i []) p x
 
-module _ (ws : List Wire) (i p : ℕ) (x : Wire) where
-  changed : length ws ≡ 768 → i < 24 → p < 32 → (j q : ℕ) →
-      wires_of (record { wires = set ws (i * 32 + p) x }) j q ≡ put i p x (wires_of (record { wires = ws })) j q
-  changed len li lp j q = ⊎_elim same other (cases_Bool (eqb j i && eqb q p))
-    where
-      same : (eqb j i && eqb q p) ≡ true → wires_of (record { wires = set ws (i * 32 + p) x }) j q ≡ put i p x (wires_of (record { wires = ws })) j q
-      same t =
-          let e = and_parts (eqb j i) (eqb q p) t in
-          let ej : j ≡ i = eqb-true j i e.0 in
-          let eq : q ≡ p = eqb-true q p e.1 in
-          cond-true (ltb j 24 && ltb q 32) _ Nothing (and_from _ _ (lt-ltb j 24 (omega arith)) (lt-ltb q 32 (omega arith)))
-          ∙ ap (λ k. get_or (set ws (i * 32 + p) x) k Nothing) (omega arith) ∙ get_or-set_same ws (i * 32 + p) x Nothing (omega (arith, len))
-          ∙ sym (cond-true (eqb j i && eqb q p) x _ t)
+  -- port q of switch i, and of another one
+  on_row : (q : ℕ) → get_or row q Nothing ≡ cond (eqb q p) x (get_or (get_or ws i []) q Nothing)
+  on_row q =
+      ⊎_elim
+      (λ t. ap (λ k. get_or row k Nothing) (eqb-true q p t) ∙ get_or-set_same (get_or ws i []) p x Nothing lp ∙ sym (cond-true (eqb q p) x _ t))
+      (λ f. get_or-set_other (get_or ws i []) p q x Nothing (eqb-false q p f) ∙ sym (cond-false (eqb q p) x _ f)) (cases_Bool (eqb q p))
 
-      other : (eqb j i && eqb q p) ≡ false → wires_of (record { wires = set ws (i * 32 + p) x }) j q ≡ put i p x (wires_of (record { wires = ws })) j q
-      other f =
-          cond_same (ltb j 24 && ltb q 32) _ _ Nothing
-          (λ r. get_or-set_other ws (i * 32 + p) (j * 32 + q) x Nothing (apart i p j q lp (ltb-true q 32 (and_parts (ltb j 24) (ltb q 32) r).1) f))
-          ∙ sym (cond-false (eqb j i && eqb q p) x _ f)
+  changed : (j q : ℕ) → wires_of (record { wires = set ws i row }) j q ≡ put i p x (wires_of (record { wires = ws })) j q
+  changed j q =
+      ⊎_elim
+      (λ t.
+      let e : j ≡ i = eqb-true j i t in
+      ap (λ r. get_or r q Nothing) (ap (λ k. get_or (set ws i row) k []) e ∙ get_or-set_same ws i row [] li) ∙ on_row q
+      ∙ rw (t, e) refl)
+      (λ f.
+      ap (λ r. get_or r q Nothing) (get_or-set_other ws i j row [] (eqb-false j i f)) ∙ rw f refl) (cases_Bool (eqb j i))
 
-  pub put_board : length ws ≡ 768 → i < 24 → p < 32 → wires_of (record { wires = set ws (i * 32 + p) x }) ≡ put i p x (wires_of (record { wires = ws }))
-  put_board len li lp z j q = changed len li lp j q z
+  pub put_board : wires_of (record { wires = set ws i row }) ≡ put i p x (wires_of (record { wires = ws }))
+  put_board z j q = changed j q z

@@ -6,7 +6,7 @@ use Rattle.octets.specs.Streams.{Consumes, Streams}
 use Rattle.octets.proofs.Streams.{never, streams_check, streams_then}
 use Rattle.octets.proofs.Spells.{Spelt, Spells, spells_read, spells_bad, spells_check, spells_then}
 use Rattle.octets.proofs.Yields.{Yields, yields_read, yields_bad, yields_check, yields_then, yields_any}
-use Rattle.wire.specs.Numbers.{tested, alone}
+use Rattle.octets.specs.Parse.{tested, alone}
 use Rattle.wire.specs.Laws.{Exact}
 
 -- A number that is tested: it streams, is spelt as before, and passes the test.

@@ -5,7 +5,7 @@ use Rattle.octets.specs.Parse.{Got, Read, Bad, and_then, byte, word}
 use Rattle.octets.proofs.Yields.{Yields, yields_read, yields_check, yields_then, yields_any}
 use Rattle.wire.specs.declared.board.Wire.{Wire}
 use Rattle.wire.specs.declared.board.Wire.TheVariants.{Nothing, Outside, To}
-use Rattle.wire.specs.Numbers.{between, below}
+use Rattle.octets.specs.Parse.{between, below}
 use Rattle.wire.specs.Wires.{Wires, bare, put, is_free, is_cable, leads, Link, There, Back, Ends, Apart, Sound}
 use Rattle.wire.specs.Layouts.{times, free_port, open_port, linked, cable, outside, wires, layout}
 use Rattle.wire.specs.Laws.{GoodLayout, Cabled}

@@ -15,11 +15,6 @@ use Rattle.wire.specs.Laws.{Listed}
 word_back : {Y : Type 0} (v : ℕ) (rest : List ℕ) (f : ℕ → List ℕ → Got Y) → and_then (word (word_bytes v ++ rest)) f ≡ f v rest
 word_back v rest f = let e : v / 256 * 256 + v % 256 ≡ v = omega arith in ap (λ x. f x rest) e
 
--- five parts, one behind the other
-pub in_turn : (old a b c d o p q r s : List ℕ) → o ≡ old → p ≡ o ++ a → q ≡ p ++ b → r ≡ q ++ c → s ≡ r ++ d → s ≡ old ++ (a ++ (b ++ (c ++ d)))
-in_turn old a b c d o p q r s e f g h i =
-    i ∙ ap (λ l. l ++ d) (h ∙ ap (λ l. l ++ c) (g ∙ ap (λ l. l ++ b) (f ∙ ap (λ l. l ++ a) e))) ∙ simp append_assoc
-
 module _ (n ports : ℕ) where
   cable_back : (w : Wires) (c : Cable) (rest : List ℕ) → Pluggable n ports w c → cable n ports w (cable_bytes c ++ rest) ≡ Read (plug c w) rest
   cable_back w c rest g =

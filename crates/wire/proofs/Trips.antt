@@ -14,7 +14,7 @@ use Rattle.wire.specs.declared.order.Message.{Message}
 use Rattle.wire.specs.declared.order.Message.TheVariants.{Ask, Answer}
 use Rattle.wire.specs.declared.order.Letter.{Letter}
 use Rattle.wire.specs.declared.mark.Mark.{Mark}
-use Rattle.wire.specs.Numbers.{tested, kind, between, below}
+use Rattle.octets.specs.Parse.{tested, kind, between, below}
 use Rattle.wire.specs.Orders.{kind_of, version_of, round_of, order_of, round_for, order, sent, of_kind, order_in, order_bytes, letter, letter_bytes}
 use Rattle.wire.specs.Marks.{mark, mark_bytes}
 use Rattle.wire.specs.Frames.{fields, entry, framed, cabled, frame_bytes}

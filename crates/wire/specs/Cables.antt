@@ -1,7 +1,7 @@
 -- What the value of a list of cables is.
 use Rattle.wire.specs.declared.cables.Cables.{Cables}
 use Rattle.wire.specs.Layouts.{Layout}
-use Rattle.wire.specs.Wires.{wires_of}
+use Rattle.wire.specs.Nets.{wires_in}
 
 abbrev pub layout_of : Cables → Layout
-layout_of c = record { switches = c.switches; ports = c.ports; hops = c.hops; wire = wires_of c.board }
+layout_of c = record { switches = c.net.switches; ports = c.net.ports; hops = c.hops; wire = wires_in c.net }

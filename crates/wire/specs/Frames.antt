@@ -2,9 +2,9 @@
 use Rattle.std.specs.Prelude.{ℕ, zero, suc, List, [], ◌∷◌, ◌++◌, nat_eq}
 use Rattle.std.specs.List.{flat_map}
 use Rattle.octets.specs.Parse.{Got, Read, and_then, byte, word, word_bytes}
-use Rattle.packet.specs.declared.Packet.{Packet}
+use Rattle.packet.specs.declared.packets.Packet.{Packet}
 use Rattle.wire.specs.declared.frame.Frame.{Frame}
-use Rattle.wire.specs.Numbers.{tested, kind, below}
+use Rattle.octets.specs.Parse.{tested, kind, below}
 
 -- k fields more, behind those of ps
 abbrev pub fields : ℕ → List ℕ → List ℕ → Got (List ℕ)

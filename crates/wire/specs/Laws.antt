@@ -6,7 +6,7 @@ use Rattle.wire.specs.declared.order.Order.TheVariants.{Install, Stamp, Round, R
 use Rattle.wire.specs.declared.order.Letter.{Letter}
 use Rattle.wire.specs.declared.mark.Mark.{Mark}
 use Rattle.wire.specs.declared.frame.Frame.{Frame}
-use Rattle.wire.specs.Numbers.{alone}
+use Rattle.octets.specs.Parse.{alone}
 use Rattle.wire.specs.Orders.{kind_of, version_of, round_of, order_of, order_in, letter, letter_bytes}
 use Rattle.wire.specs.Marks.{mark, mark_bytes}
 use Rattle.wire.specs.Frames.{cabled, outside, frame_bytes}

@@ -2,7 +2,7 @@
 use Rattle.std.specs.Prelude.{ℕ, zero, suc, not, List}
 use Rattle.octets.specs.Parse.{Got, Read, and_then, check, word}
 use Rattle.wire.specs.declared.board.Wire.TheVariants.{Outside, To}
-use Rattle.wire.specs.Numbers.{between, below}
+use Rattle.octets.specs.Parse.{between, below}
 use Rattle.wire.specs.Wires.{Wires, bare, put, is_free, is_cable}
 
 -- a step that reads on, k times

@@ -1,8 +1,9 @@
-pub mod Numbers
 pub mod Orders
 pub mod Marks
 pub mod Frames
 pub mod Wires
+pub mod Nets
+pub mod Reading
 pub mod Layouts
 pub mod Cables
 pub mod Lists

@@ -2,7 +2,7 @@
 use Rattle.std.specs.Prelude.{ℕ, List, [], ◌∷◌, ◌++◌}
 use Rattle.octets.specs.Parse.{Got, Read, and_then, word, word_bytes}
 use Rattle.wire.specs.declared.mark.Mark.{Mark}
-use Rattle.wire.specs.Numbers.{kind, between}
+use Rattle.octets.specs.Parse.{kind, between}
 
 -- in a net of h hops
 abbrev pub mark : ℕ → List ℕ → Got Mark

@@ -3,12 +3,20 @@ use Rattle.std.specs.Prelude.{ℕ, ◌+◌, ◌-◌, cond, ◌&&◌, List, [], �
 use Rattle.octets.specs.Parse.{Got, Read, Bad, and_then, byte, word, word_bytes}
 use Rattle.wire.specs.declared.order.Order.{Order}
 use Rattle.wire.specs.declared.order.Order.TheVariants.{Install, Stamp, Round, Remove}
+use Rattle.wire.specs.declared.order.Kind.{Kind}
+use Rattle.wire.specs.declared.order.Kind.TheVariants as kinds
 use Rattle.wire.specs.declared.order.Message.{Message}
 use Rattle.wire.specs.declared.order.Message.TheVariants.{Ask, Answer}
 use Rattle.wire.specs.declared.order.Letter.{Letter}
-use Rattle.wire.specs.Numbers.{between, below}
+use Rattle.octets.specs.Parse.{between, below}
 
 -- the kinds of orders, from 0
+abbrev pub number : Kind → ℕ
+number kinds.Install = 0
+number kinds.Stamp = 1
+number kinds.Round = 2
+number kinds.Remove = 3
+
 abbrev pub kind_of : Order → ℕ
 kind_of (Install v) = 0
 kind_of (Stamp v) = 1

@@ -1,5 +1,5 @@
 -- What hangs on each port of each switch: a function of the two numbers.
-use Rattle.std.specs.Prelude.{◌≡◌, ℕ, ◌+◌, ◌*◌, ◌<◌, Bool, true, false, cond, ◌&&◌, ◌==◌, ◌≢◌, nat_lt, slice_index_or}
+use Rattle.std.specs.Prelude.{◌≡◌, ℕ, ◌<◌, Bool, true, false, cond, ◌&&◌, [], ◌==◌, ◌≢◌, slice_index_or}
 use Rattle.wire.specs.declared.board.Wire.{Wire}
 use Rattle.wire.specs.declared.board.Wire.TheVariants.{Nothing, Outside, To}
 use Rattle.wire.specs.declared.board.Board.{Board}
@@ -35,9 +35,9 @@ leads Nothing i p = false
 leads Outside i p = false
 leads (To j q) i p = j == i && q == p
 
--- a board has 32 places for each of 24 switches
+-- a board has 32 ports for each of 24 switches; on others hangs nothing
 abbrev pub wires_of : Board → Wires
-wires_of b i p = cond (nat_lt i 24 && nat_lt p 32) (slice_index_or b.wires (i * 32 + p) Nothing) Nothing
+wires_of b i p = slice_index_or (slice_index_or b.wires i []) p Nothing
 
 -- What holds of the wires of n switches with so many ports each.
 -- only on their ports hangs something

@@ -1,49 +1,51 @@
 // What hangs on each port.
-ghost use Rattle.std.specs.Prelude.{◌≡◌, ◌<◌};
+ghost use Rattle.std.specs.Prelude.{◌≡◌, ◌<◌, length, slice_set};
 ghost use Rattle.wire.specs.Wires.{wires_of};
 ghost use Rattle.wire.specs.Wires as spec;
 
-#[derive(Clone, Copy, PartialEq, Eq)]
+#[derive(Clone, Copy, Debug, Default, PartialEq, Eq)]
 pub enum Wire {
+    #[default]
     Nothing,
     Outside,
     // The other end of the cable: a switch and a port.
     To(u8, u8),
 }
 
-// 32 places for each of 24 switches.
+// 32 ports for each of 24 switches.
 #[derive(Clone, Copy)]
 pub struct Board {
-    wires: [Wire; 768],
+    wires: [[Wire; 32]; 24],
 }
 
 impl Wire {
     pub fn is_free(self) -> bool
         ensures value { result ≡ spec.is_free self }
     {
-        match self {
-            Wire::Nothing => true,
-            Wire::Outside | Wire::To(_, _) => false,
-        }
+        self == Wire::Nothing
     }
 
     pub fn is_outside(self) -> bool
         ensures value { result ≡ spec.is_outside self }
     {
-        match self {
-            Wire::Outside => true,
-            Wire::Nothing | Wire::To(_, _) => false,
-        }
+        self == Wire::Outside
     }
 
     pub fn is_cable(self) -> bool
         ensures value { result ≡ spec.is_cable self }
     {
-        match self {
-            Wire::To(_, _) => true,
-            Wire::Outside | Wire::Nothing => false,
-        }
+        matches!(self, Wire::To(_, _))
     }
+}
+
+// The ports of a switch, with something else on one of them.
+fn hung(mut ports: [Wire; 32], p: u8, wire: Wire) -> [Wire; 32]
+    requires { p < 32 }
+    ensures after { result ≡ slice_set ports p wire }
+    ensures there { p < length ports }
+{
+    ports[p as usize] = wire;
+    ports
 }
 
 impl Board {
@@ -51,7 +53,7 @@ impl Board {
         ensures value { wires_of result ≡ spec.bare }
     {
         Board {
-            wires: [Wire::Nothing; 768],
+            wires: [[Wire::Nothing; 32]; 24],
         }
     }
 
@@ -59,11 +61,10 @@ impl Board {
     pub fn at(&self, i: u8, p: u8) -> Wire
         ensures value { result ≡ wires_of self.now i p }
     {
-        if i < 24 && p < 32 {
-            self.wires[i as usize * 32 + p as usize]
-        } else {
-            Wire::Nothing
-        }
+        let Some(ports) = self.wires.get(i as usize) else {
+            return Wire::Nothing;
+        };
+        ports.get(p as usize).copied().unwrap_or_default()
     }
 
     pub fn put(&mut self, i: u8, p: u8, wire: Wire)
@@ -71,6 +72,6 @@ impl Board {
         requires port { p < 32 }
         ensures after { wires_of self.new ≡ spec.put i p wire (wires_of self.old) }
     {
-        self.wires[i as usize * 32 + p as usize] = wire;
+        self.wires[i as usize] = hung(self.wires[i as usize], p, wire);
     }
 }

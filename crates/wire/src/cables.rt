@@ -1,8 +1,9 @@
 // The cables of a net: the switches, their ports, and what hangs on each.
 ghost use Rattle.std.specs.Prelude.{◌≤◌};
-ghost use Rattle.wire.specs.Wires.{There, Back, Ends, Apart, wires_of};
+ghost use Rattle.wire.specs.Nets.{wires_in};
+ghost use Rattle.wire.specs.Wires.{There, Back, Ends, Apart};
 
-use crate::board::Board;
+use crate::net::Net;
 
 mod reads;
 mod views;
@@ -12,17 +13,13 @@ pub use reads::read;
 // 1 to 24 switches with 1 to 32 ports each, and how many cables a packet may go over.
 #[derive(Drop)]
 pub struct Cables {
-    switches: u8,
-    ports: u8,
+    net: Net,
     hops: u8,
-    board: Board,
-    ghost some: { 1 ≤ switches },
-    ghost few: { switches ≤ 24 },
-    ghost wide: { 1 ≤ ports },
-    ghost narrow: { ports ≤ 32 },
+    ghost some: { 1 ≤ net.switches },
+    ghost wide: { 1 ≤ net.ports },
     ghost near: { hops ≤ 16 },
-    ghost there: { There switches ports (wires_of board) },
-    ghost back: { Back (wires_of board) },
-    ghost ends: { Ends switches ports (wires_of board) },
-    ghost apart: { Apart (wires_of board) },
+    ghost there: { There net.switches net.ports (wires_in net) },
+    ghost back: { Back (wires_in net) },
+    ghost ends: { Ends net.switches net.ports (wires_in net) },
+    ghost apart: { Apart (wires_in net) },
 }

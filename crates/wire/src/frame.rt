@@ -7,7 +7,7 @@ mod writes;
 pub use reads::{read_cable, read_outside};
 pub use writes::write;
 
-#[derive(Clone, Copy)]
+#[derive(Clone, Copy, Debug, PartialEq, Eq)]
 pub struct Frame {
     pub version: u16,
     pub hops: u8,

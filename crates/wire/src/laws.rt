@@ -1,7 +1,7 @@
 // What reading and writing have to do with each other.
 ghost use Rattle.wire.specs.Laws as laws;
 
-pub fn formats_stand() -> u8
+pub fn formats_stand()
     ensures kinds { laws.Kinds }
     ensures orders { laws.Orders }
     ensures marks { laws.Marks }
@@ -9,6 +9,4 @@ pub fn formats_stand() -> u8
     ensures outside { laws.Outside }
     ensures cabled { laws.Cabled }
     ensures listed { laws.Listed }
-{
-    0
-}
+{}

@@ -3,15 +3,17 @@
 
 mod board;
 pub mod cables;
+mod coded;
 pub mod frame;
 pub mod laws;
 pub mod list;
 pub mod mark;
-mod numbers;
+mod net;
 pub mod order;
 
 pub use board::{Board, Wire};
 pub use cables::Cables;
 pub use frame::Frame;
 pub use mark::Mark;
-pub use order::{Letter, Message, Order};
+pub use net::Net;
+pub use order::{Kind, Letter, Message, Order};

@@ -1,14 +1,13 @@
 // Marks, which go over cables in front of what is sent by a new version.
 ghost use Rattle.std.specs.Prelude.{◌≡◌, [], ◌++◌, MatchResult};
 ghost use Rattle.octets.specs.Readers.{told, rest};
-ghost use Rattle.wire.specs.Numbers.{alone};
+ghost use Rattle.octets.specs.Parse.{alone};
 ghost use Rattle.wire.specs.Marks as spec;
 
-use crate::numbers::{between, kind};
 use octets::{Cursor, Fault};
 use std::alloc::AllocError;
 
-#[derive(Clone, Copy, PartialEq, Eq)]
+#[derive(Clone, Copy, Debug, PartialEq, Eq, PartialOrd, Ord)]
 pub struct Mark {
     pub version: u16,
     pub round: u8,
@@ -17,9 +16,9 @@ pub struct Mark {
 fn read_mark(c: &mut Cursor, h: u8) -> Result<Mark, Fault>
     ensures value { told result (rest c.new) ≡ spec.mark h (rest c.old) }
 {
-    let _kind = kind(c, 65)?;
+    let _kind = c.kind(65)?;
     let version = c.word()?;
-    let round = between(c, 1, h)?;
+    let round = c.between(1, h)?;
     Ok(Mark { version, round })
 }
 
@@ -29,9 +28,7 @@ pub fn read(bytes: &[u8], h: u8) -> Result<Mark, Fault>
 {
     let mut c = Cursor::new(bytes);
     let m = read_mark(&mut c, h)?;
-    if !c.is_done() {
-        return Err(Fault::Form);
-    }
+    c.end()?;
     Ok(m)
 }
 
@@ -41,10 +38,6 @@ pub fn write(out: &mut Vec<u8>, m: Mark) -> Result<(), AllocError>
         (λ _. out.new.items ≡ out.old.items ++ spec.mark_bytes m)
         (λ _. out.new.items ≡ out.old.items) }
 {
-    out.extend_from_slice(&[
-        65,
-        (m.version / 256) as u8,
-        (m.version % 256) as u8,
-        m.round,
-    ])
+    let [high, low] = m.version.to_be_bytes();
+    out.extend_from_slice(&[65, high, low, m.round])
 }

@@ -1,155 +1,71 @@
 // How outs are made and read.
-ghost use Rattle.std.specs.Prelude.{◌≡◌, ◌+◌, ◌<◌, ◌≤◌, [], ◌∷◌, ◌++◌, map, length, slice_index_or};
+ghost use Rattle.std.specs.Prelude.{◌≡◌, ◌+◌, ◌<◌, ◌≤◌, List, [], ◌∷◌, ◌++◌, map, length};
+ghost use Rattle.packet.specs.Listed.{fields_of};
+ghost use Rattle.packet.specs.Pairs.{setting_of};
+ghost use Rattle.packet.specs.Table.{Setting};
 ghost use Rattle.text.specs.Texts.{nodes_of};
 ghost use Rattle.text.specs.Trees.{meaning};
 ghost use Rattle.meaning.specs.Evaluators.{text_of};
-ghost use Rattle.meaning.specs.Listed.{fields_of};
 ghost use Rattle.prescribed.specs.Order.{insert, rising, less_out};
 ghost use Rattle.prescribed.specs.Table as prescribed;
-ghost use Rattle.leaves.specs.Place.{Place};
-ghost use Rattle.leaves.specs.Outs.{setting_of, settings_of, outs_of, LeafOuts};
+ghost use Rattle.leaves.specs.Outs.{settings_of, outs_of, LeafOuts};
 
-use super::{Out, Outs, Setting};
-use crate::rank::comes_before;
+use super::{Out, Outs};
+use arrayvec::ArrayVec;
 use meaning::Evaluator;
 use octets::Fault;
-use packet::Packet;
-
-const NOTHING: Setting = Setting { field: 0, value: 0 };
+use packet::{Packet, Pair};
 
 impl Out {
-    fn none() -> Out
-        ensures value { settings_of result ≡ [] }
-        ensures count { result.count ≡ 0 }
+    pub fn as_slice(&self) -> &[Pair]
+        ensures value { map setting_of result.now ≡ settings_of self.now }
+        ensures few { length result.now ≤ 8 }
     {
-        let settings = [NOTHING; 8];
-        Out { settings, count: 0 }
-    }
-
-    pub fn len(&self) -> usize
-        ensures value { result ≡ length (settings_of self.now) }
-        ensures few { result ≤ 8 }
-    {
-        self.count
-    }
-
-    // Setting j, or zeros where there is none.
-    pub fn setting(&self, j: usize) -> Setting
-        ensures value { setting_of result ≡ slice_index_or (settings_of self.now) j (record { at = 0; value = 0 }) }
-    {
-        if j < self.count {
-            self.settings[j]
-        } else {
-            NOTHING
-        }
-    }
-
-    fn push(self, s: Setting) -> Out
-        requires room { self.count < 8 }
-        ensures value { settings_of result ≡ settings_of self ++ setting_of s ∷ [] }
-        ensures count { result.count ≡ self.count + 1 }
-    {
-        let mut settings = self.settings;
-        settings[self.count] = s;
-        Out {
-            settings,
-            count: self.count + 1,
-        }
-    }
-
-    fn is_less(&self, other: &Out) -> bool
-        ensures value { result ≡ less_out (settings_of self.now) (settings_of other.now) }
-    {
-        for i in 0..self.count {
-            if i >= other.count {
-                return false;
-            }
-            let s = self.settings[i];
-            let t = other.settings[i];
-            if comes_before(s.field, s.value, t.field, t.value) {
-                return true;
-            }
-            if comes_before(t.field, t.value, s.field, s.value) {
-                return false;
-            }
-        }
-        self.count < other.count
+        self.settings.as_slice()
     }
 
     // The fields in which the copy differs from the packet.
     fn changes(p: Packet, copy: Packet) -> Out
         ensures value { settings_of result ≡ prescribed.changes 0 p.fields copy.fields }
     {
-        let mut out = Out::none();
-        for f in 0..8 {
-            let value = copy.fields[f];
-            if p.fields[f] != value {
-                out = out.push(Setting {
+        let mut settings = ArrayVec::new();
+        for (f, value) in copy.fields.iter().enumerate() {
+            if p.fields[f] != *value {
+                settings.push(Pair {
                     field: f as u8,
-                    value,
+                    value: *value,
                 });
             }
         }
-        out
+        Out { settings }
     }
 }
 
 impl Outs {
     fn none() -> Outs
         ensures value { outs_of result ≡ [] }
-        ensures count { result.count ≡ 0 }
     {
-        let outs = [Out::none(); 16];
-        Outs { outs, count: 0 }
-    }
-
-    pub fn len(&self) -> usize
-        ensures value { result ≡ length (outs_of self.now) }
-        ensures few { result ≤ 16 }
-    {
-        self.count
-    }
-
-    // Out i, or one with no settings where there is none.
-    pub fn out(&self, i: usize) -> Out
-        ensures value { settings_of result ≡ slice_index_or (outs_of self.now) i [] }
-    {
-        if i < self.count {
-            self.outs[i]
-        } else {
-            Out::none()
-        }
-    }
-
-    // Where o goes among the outs.
-    fn place(&self, o: &Out) -> usize
-        ensures within { result ≤ self.now.count }
-        ensures place { Place less_out (settings_of o.now) (outs_of self.now) result }
-    {
-        for i in 0..self.count {
-            if !self.outs[i].is_less(o) {
-                return i;
-            }
-        }
-        self.count
-    }
-
-    // One out more at its place, unless it is there.
-    fn insert(self, o: Out) -> Outs
-        requires room { self.count < 16 }
-        ensures value { outs_of result ≡ insert less_out (settings_of o) (outs_of self) }
-        ensures count { result.count ≤ self.count + 1 }
-    {
-        let i = self.place(&o);
-        if i < self.count && !o.is_less(&self.outs[i]) {
-            return self;
-        }
-        let mut outs = self.outs;
-        outs.copy_within(i..self.count, i + 1);
-        outs[i] = o;
         Outs {
-            outs,
-            count: self.count + 1,
+            outs: ArrayVec::new(),
+        }
+    }
+
+    pub fn as_slice(&self) -> &[Out]
+        ensures value { map settings_of result.now ≡ outs_of self.now }
+        ensures few { length result.now ≤ 16 }
+    {
+        self.outs.as_slice()
+    }
+
+    // One out more at its place in rising order, unless it is there.
+    fn insert(&mut self, o: Out)
+        requires room { length (outs_of self.old) < 16 }
+        ensures value { (os : List (List Setting)) → outs_of self.old ≡ rising less_out os →
+            outs_of self.new ≡ insert less_out (settings_of o) (outs_of self.old) }
+        ensures count { length (outs_of self.new) ≤ length (outs_of self.old) + 1 }
+    {
+        if let Err(i) = self.outs.as_slice().binary_search(&o) {
+            self.outs.insert(i, o);
         }
     }
 
@@ -159,7 +75,7 @@ impl Outs {
     {
         let mut all = Outs::none();
         for q in copies {
-            all = all.insert(Out::changes(p, *q));
+            all.insert(Out::changes(p, *q));
         }
         all
     }
@@ -170,9 +86,7 @@ impl Outs {
         ensures cases { LeafOuts (meaning (nodes_of (text_of evaluator.old))) p.fields result }
     {
         let last = evaluator.text().nodes().len() - 1;
-        match evaluator.copies(last as u16, p) {
-            Ok(copies) => Ok(Outs::from_copies(p, copies.as_slice())),
-            Err(fault) => Err(fault),
-        }
+        let copies = evaluator.copies(last as u16, p)?;
+        Ok(Outs::from_copies(p, copies.as_slice()))
     }
 }

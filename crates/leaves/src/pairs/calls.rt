@@ -1,17 +1,20 @@
 // How pairs are found and read.
-ghost use Rattle.std.specs.Prelude.{◌≡◌, ◌+◌, ◌*◌, ◌<◌, ◌≤◌, length, IfOk, vec_len, vec_capacity};
+ghost use Rattle.std.specs.Prelude.{◌≡◌, ◌+◌, ◌*◌, ◌<◌, ◌≤◌, List, length, IfOk, vec_len, vec_capacity};
 ghost use Rattle.std.specs.List.{AllWithin};
+ghost use Rattle.std.specs.List.Sorted.{IsSearchInRange, IsBinarySearchResult};
+ghost use Rattle.std.specs.Ordering.{nat_cmp, ordering_then};
+ghost use Rattle.packet.specs.Pairs.{want_of};
+ghost use Rattle.packet.specs.Table.{Want};
 ghost use Rattle.text.specs.Texts.{nodes_of};
 ghost use Rattle.text.specs.Trees.{meaning};
 ghost use Rattle.prescribed.specs.Fit as fit;
-ghost use Rattle.prescribed.specs.Order.{insert, less_want};
+ghost use Rattle.prescribed.specs.Order.{insert, rising, less_want};
 ghost use Rattle.prescribed.specs.Table.{pairs_of};
-ghost use Rattle.leaves.specs.Place.{Place};
-ghost use Rattle.leaves.specs.Pairs.{want_of, wants_of, pairs_in, Fits};
+ghost use Rattle.leaves.specs.Pairs.{wants_of, pairs_in, Fits};
 
-use super::{Pair, Pairs};
+use super::Pairs;
 use crate::marks::under;
-use crate::rank::comes_before;
+use packet::Pair;
 use std::alloc::{AllocError, Global};
 use text::{Node, Text};
 
@@ -21,34 +24,25 @@ const MOST: usize = 512;
 // The most leaves of a table.
 const LEAVES: usize = 65536;
 
-// Where p goes among the pairs.
-fn place(pairs: &[Pair], p: Pair) -> usize
-    ensures within { result ≤ length pairs.now }
-    ensures place { Place less_want (want_of p) (wants_of pairs.now) result }
+// Where p is among rising pairs, or where it goes.
+fn place(pairs: &[Pair], p: Pair) -> Result<usize, usize>
+    ensures bound { IsSearchInRange result (length pairs.now) }
+    ensures place { IsBinarySearchResult (λ q. ordering_then (nat_cmp q.field p.field) (nat_cmp q.value p.value)) pairs.now result }
 {
-    for (i, q) in pairs.iter().enumerate() {
-        if !comes_before(q.field, q.value, p.field, p.value) {
-            return i;
-        }
-    }
-    pairs.len()
+    pairs.binary_search(&p)
 }
 
 // One pair more at its place, unless it is there.
 fn insert(items: &mut Vec<Pair>, p: Pair)
     requires room { vec_len items.old < vec_capacity items.old }
-    ensures items { wants_of items.new.items ≡ insert less_want (want_of p) (wants_of items.old.items) }
+    ensures items { (ws : List Want) → wants_of items.old.items ≡ rising less_want ws →
+        wants_of items.new.items ≡ insert less_want (want_of p) (wants_of items.old.items) }
     ensures len { vec_len items.new ≤ vec_len items.old + 1 }
     ensures capacity { vec_capacity items.old ≤ vec_capacity items.new }
 {
-    let i = place(items.as_slice(), p);
-    if i < items.len() {
-        let q = items[i];
-        if !comes_before(p.field, p.value, q.field, q.value) {
-            return;
-        }
+    if let Err(i) = place(items, p) {
+        let _ = items.insert(i, p);
     }
-    let _ = items.insert(i, p);
 }
 
 impl Pairs {
@@ -59,6 +53,7 @@ impl Pairs {
         let mut items = Vec::with_capacity(heap, MOST)?;
         let row = under(text);
         for (k, n) in text.nodes().iter().enumerate() {
+            // Two tests, since of one with both parts nothing would be known where it fails.
             if let Node::Is(field, value) = *n {
                 if row[k] {
                     insert(&mut items, Pair { field, value });
@@ -98,11 +93,5 @@ fn values(pairs: &[Pair], f: u8) -> usize
     ensures some { 1 ≤ result }
     ensures few { result ≤ 513 }
 {
-    let mut n = 1;
-    for p in pairs {
-        if p.field == f {
-            n += 1;
-        }
-    }
-    n
+    1 + pairs.iter().filter(|p| p.field == f).count()
 }

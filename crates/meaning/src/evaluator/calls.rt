@@ -5,49 +5,38 @@ ghost use Rattle.text.specs.Nodes.{fitting};
 ghost use Rattle.text.specs.Texts.{nodes_of};
 ghost use Rattle.meaning.specs.Answers.{HoldsAt, CopiesAt};
 ghost use Rattle.meaning.specs.Evaluators.{text_of};
-ghost use Rattle.meaning.specs.Kept.{Right};
+ghost use Rattle.meaning.specs.Memos.{Blank};
 
 use super::Evaluator;
 use crate::copies::Copies;
-use crate::gives::give;
-use crate::memo::{Entry, Memo, PLACES, ROWS};
-use crate::tests::{passes, row_of};
+use crate::memo::{Kept, PLACES, ROWS};
 use octets::Fault;
 use packet::Packet;
 use std::alloc::{AllocError, Global};
 use text::{Sort, Text};
 
-// A memo that knows nothing yet: its row is that of a packet of zeros, and its entries are of a node that isn't
-// there, which has no copies of any packet.
-fn blank(heap: Global, text: &Text) -> Result<Memo, AllocError>
-    ensures made { IfOk result (λ m. Right (nodes_of text.now) m) }
+// Room for what so many nodes give, of which nothing is known yet.
+fn blank(heap: Global, nodes: usize) -> Result<Vec<Kept>, AllocError>
+    ensures made { IfOk result (λ v. Blank nodes v.items) }
 {
-    let packet = Packet { fields: [0; 8] };
-    let row = row_of(text, packet);
-    let rows = vec![in heap; row; ROWS]?;
-    let nobody = Entry {
-        node: u16::MAX,
-        packet,
-        copies: Copies::none(),
-    };
-    let entries = vec![in heap; nobody; PLACES * text.nodes().len()]?;
-    let used = [0; 512];
-    Ok(Memo {
-        rows,
-        filled: 0,
-        entries,
-        used,
-    })
+    let mut kept = Vec::with_capacity(heap, nodes)?;
+    for _i in 0..nodes {
+        let entries = Vec::with_capacity(heap, PLACES)?;
+        kept.push(Kept {
+            asked: Packet::default(),
+            entries,
+        })?;
+    }
+    Ok(kept)
 }
 
 fn is_test(text: &Text, k: u16) -> bool
     ensures value { result ≡ fitting Test (nodes_of text.now) k }
 {
-    let k = k as usize;
-    if k >= text.nodes().len() {
+    let Some(node) = text.nodes().get(k as usize) else {
         return false;
-    }
-    text.nodes()[k].sort().is(Sort::Test)
+    };
+    node.sort() == Sort::Test
 }
 
 impl Evaluator {
@@ -55,8 +44,14 @@ impl Evaluator {
     pub fn new(heap: Global, text: Text) -> Result<Evaluator, AllocError>
         ensures made { IfOk result (λ e. text_of e ≡ text) }
     {
-        let memo = blank(heap, &text)?;
-        Ok(Evaluator { text, memo })
+        let rows = Vec::with_capacity(heap, ROWS)?;
+        let kept = blank(heap, text.nodes().len())?;
+        Ok(Evaluator {
+            text,
+            asked: Packet::default(),
+            rows,
+            kept,
+        })
     }
 
     pub fn text(&self) -> &Text
@@ -73,7 +68,7 @@ impl Evaluator {
         if !is_test(&self.text, k) {
             return Err(Fault::Operand);
         }
-        Ok(passes(&self.text, k as usize, p, &mut self.memo))
+        Ok(self.passes(k, p))
     }
 
     // The copies that node k gives of the packet.
@@ -84,9 +79,8 @@ impl Evaluator {
         if k as usize >= self.text.nodes().len() {
             return Err(Fault::Operand);
         }
-        // What came up for one packet seldom comes up for the next, and a search is shorter in an empty memo.
-        self.memo.filled = 0;
-        self.memo.used = [0; 512];
-        give(&self.text, k, p, &mut self.memo)
+        self.asked = p;
+        self.rows.clear();
+        self.give(k, p)
     }
 }

@@ -6,6 +6,7 @@ ghost use Rattle.notation.specs.Readers.{sofar, grown, outcome};
 
 use super::{Reader, Refusal};
 use crate::marks::{Mark, cut};
+use crate::parts::Parts;
 use crate::used::Used;
 use octets::Fault;
 use text::{Draft, Text};
@@ -15,13 +16,9 @@ impl Reader {
     fn line(&mut self, bytes: &[u8]) -> Result<(), Fault>
         ensures value { grown result self.new ≡ line_in (sofar self.old) bytes.now }
     {
-        let (mut left, _) = cut(bytes, Mark::Hash);
-        while !left.is_empty() {
-            let (piece, rest) = cut(left, Mark::Semicolon);
-            left = rest;
-            if let Err(e) = self.piece(piece) {
-                return Err(e);
-            }
+        let (nodes, _) = cut(bytes, Mark::Hash);
+        for piece in Parts::new(nodes, Mark::Semicolon) {
+            self.piece(piece)?;
         }
         Ok(())
     }
@@ -35,25 +32,11 @@ pub fn read(draft: Draft, bytes: &[u8]) -> Result<Text, Refusal>
         draft,
         used: Used::none(),
     };
-    let mut left = bytes;
-    let mut line: usize = 0;
-    while !left.is_empty() {
-        let (here, rest) = cut(left, Mark::Newline);
-        left = rest;
-        line += 1;
-        if let Err(fault) = reader.line(here) {
-            return Err(Refusal {
-                fault,
-                line: Some(line),
-            });
-        }
+    for (place, line) in Parts::new(bytes, Mark::Newline).enumerate() {
+        reader.line(line).map_err(|fault| Refusal {
+            fault,
+            line: Some(place + 1),
+        })?;
     }
-    let Reader { draft, used: _ } = reader;
-    match draft.finish() {
-        Some(t) => Ok(t),
-        None => Err(Refusal {
-            fault: Fault::Range,
-            line: None,
-        }),
-    }
+    reader.draft.finish().ok_or(Refusal::from(Fault::Range))
 }

@@ -12,21 +12,16 @@ ghost use Rattle.notation.specs.Readers.{told, sofar, grown};
 use super::Reader;
 use crate::kind::Kind;
 use crate::number::decimal;
-use crate::used::MOST;
 use crate::words::Words;
 use octets::Fault;
-use text::{Node, Sort};
+use text::{MOST, Node, Sort};
 
 // The next word as a number of at most `most`. A larger one is the fault that is given.
 fn up_to(words: &mut Words, most: u16, fault: Fault) -> Result<u16, Fault>
     ensures value { told result (left words.new) ≡ up_to most (number fault) (left words.old) }
 {
-    let Some(word) = words.next() else {
-        return Err(Fault::Form);
-    };
-    let Some(n) = decimal(word) else {
-        return Err(Fault::Form);
-    };
+    let word = words.next().ok_or(Fault::Form)?;
+    let n = decimal(word).ok_or(Fault::Form)?;
     if n > u32::from(most) {
         return Err(fault);
     }
@@ -34,6 +29,7 @@ fn up_to(words: &mut Words, most: u16, fault: Fault) -> Result<u16, Fault>
 }
 
 // A field and a value.
+#[tactic(auto, unfolding(crate::specs::Notation::setting))]
 fn setting(words: &mut Words) -> Result<(u8, u16), Fault>
     ensures value { told result (left words.new) ≡ notation.setting (left words.old) }
 {
@@ -55,14 +51,13 @@ impl Reader {
     }
 
     // An operand that is left out: the latest before node n that no node has used.
+    #[tactic(auto, using(crate::proofs::Flags::latest_below))]
     fn left_out(&self, want: Sort, n: usize) -> Result<u16, Fault>
         requires { n ≤ 512 }
         ensures value { (ws : List Word) → told result ws ≡ operands.left_out want (sofar self.now) n ws }
         ensures small { IfOk result (λ k. k < n) }
     {
-        let Some(latest) = self.used.latest(n) else {
-            return Err(Fault::Operand);
-        };
+        let latest = self.used.latest(n).ok_or(Fault::Operand)?;
         if !self.draft.has(want, latest) {
             return Err(Fault::Operand);
         }
@@ -70,6 +65,7 @@ impl Reader {
     }
 
     // One operand: left out where no word follows, else written.
+    #[tactic(auto, unfolding(crate::specs::Operands::one))]
     fn one(&self, want: Sort, words: &mut Words) -> Result<u16, Fault>
         ensures value { told result (left words.new) ≡ operands.one want (sofar self.now) (left words.old) }
     {
@@ -81,12 +77,13 @@ impl Reader {
     }
 
     // Two operands, likewise.
+    #[tactic(auto, unfolding(crate::specs::Operands::two))]
     fn two(&self, want: Sort, words: &mut Words) -> Result<(u16, u16), Fault>
         ensures value { told result (left words.new) ≡ operands.two want (sofar self.now) (left words.old) }
     {
         if words.is_done() {
             let last = self.left_out(want, self.draft.nodes().len())?;
-            let first = self.left_out(want, last as usize)?;
+            let first = self.left_out(want, usize::from(last))?;
             Ok((first, last))
         } else {
             let a = self.written(want, words)?;
@@ -99,38 +96,39 @@ impl Reader {
     fn node(&self, kind: Kind, words: &mut Words) -> Result<Node, Fault>
         ensures value { told result (left words.new) ≡ notation.of_kind kind (sofar self.now) (left words.old) }
     {
-        match kind {
-            Kind::Always => Ok(Node::Always),
+        Ok(match kind {
+            Kind::Always => Node::Always,
             Kind::Is => {
                 let (f, x) = setting(words)?;
-                Ok(Node::Is(f, x))
+                Node::Is(f, x)
             }
             Kind::Both => {
                 let (a, b) = self.two(Sort::Test, words)?;
-                Ok(Node::Both(a, b))
+                Node::Both(a, b)
             }
             Kind::Either => {
                 let (a, b) = self.two(Sort::Test, words)?;
-                Ok(Node::Either(a, b))
+                Node::Either(a, b)
             }
-            Kind::Not => Ok(Node::Not(self.one(Sort::Test, words)?)),
-            Kind::Keep => Ok(Node::Keep(self.one(Sort::Test, words)?)),
+            Kind::Not => Node::Not(self.one(Sort::Test, words)?),
+            Kind::Keep => Node::Keep(self.one(Sort::Test, words)?),
             Kind::Put => {
                 let (f, x) = setting(words)?;
-                Ok(Node::Put(f, x))
+                Node::Put(f, x)
             }
             Kind::And => {
                 let (a, b) = self.two(Sort::Policy, words)?;
-                Ok(Node::And(a, b))
+                Node::And(a, b)
             }
             Kind::Then => {
                 let (a, b) = self.two(Sort::Policy, words)?;
-                Ok(Node::Then(a, b))
+                Node::Then(a, b)
             }
-        }
+        })
     }
 
     // All the words behind the first one of a node.
+    #[tactic(auto, using(crate::proofs::Fitting::node_fits))]
     fn whole(&self, kind: Kind, words: &mut Words) -> Result<Node, Fault>
         ensures value { told result [] ≡ and_then (notation.of_kind kind (sofar self.now) (left words.old)) ended }
         ensures fits { IfOk result (λ n. fits (drafted self.now.draft) n ≡ true) }
@@ -160,9 +158,7 @@ impl Reader {
         let Some(word) = words.next() else {
             return Ok(());
         };
-        let Some(kind) = Kind::of(word) else {
-            return Err(Fault::Form);
-        };
+        let kind = Kind::try_from(word)?;
         if self.draft.nodes().len() >= MOST {
             return Err(Fault::Range);
         }

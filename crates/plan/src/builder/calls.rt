@@ -8,7 +8,7 @@ ghost use Rattle.plan.specs.Slots.{finished, free, line};
 ghost use Rattle.plan.specs.Views.{plan_of, slots_of, texts_of, Says};
 
 use super::Builder;
-use crate::part::Part;
+use crate::part::{Part, Scratch};
 use crate::plans::Plan;
 use octets::Fault;
 use std::alloc::{AllocError, Global};
@@ -19,27 +19,19 @@ impl Builder {
     pub fn new(heap: Global, switches: u8) -> Result<Builder, AllocError>
         ensures made { IfOk result (λ b. slots_of b ≡ replicate switches None) }
     {
-        let mut parts = Vec::with_capacity(heap, switches as usize)?;
-        for _i in 0..switches {
-            parts.push_reserved(None);
-        }
-        let scratch = Vec::new(heap);
-        Ok(Builder {
-            heap,
-            parts,
-            scratch,
-        })
+        let mut parts = Vec::new(heap);
+        parts.resize_with(usize::from(switches), || None)?;
+        let scratch = Scratch::new(heap);
+        Ok(Builder { parts, scratch })
     }
 
     // A text for this switch may come: the switch is there, and has none yet.
     pub fn claim(&self, switch: u8) -> Result<(), Fault>
         ensures value { result ≡ (if free (slots_of self.now) switch then Ok tt else Err Range) }
     {
-        let i = switch as usize;
-        if i < self.parts.len() && self.parts[i].is_none() {
-            Ok(())
-        } else {
-            Err(Fault::Range)
+        match self.parts.get(usize::from(switch)) {
+            Some(None) => Ok(()),
+            _ => Err(Fault::Range),
         }
     }
 
@@ -48,17 +40,10 @@ impl Builder {
         ensures value { Says (λ _. slots_of self.new) result [] (line (slots_of self.old) switch (Read (nodes_of text)) []) }
         ensures same { OnErr result (slots_of self.new ≡ slots_of self.old) }
     {
-        match self.claim(switch) {
-            Ok(()) => {}
-            Err(fault) => return Err(fault),
-        }
-        match Part::new(self.heap, &mut self.scratch, text) {
-            Ok(part) => {
-                self.parts[switch as usize] = Some(part);
-                Ok(())
-            }
-            Err(fault) => Err(fault),
-        }
+        self.claim(switch)?;
+        let part = Part::new(&mut self.scratch, text)?;
+        self.parts[usize::from(switch)] = Some(part);
+        Ok(())
     }
 
     // The plan, if every switch has its text.
@@ -67,16 +52,12 @@ impl Builder {
         ensures good { IfOk result (λ p. GoodFor (length (slots_of self)) (plan_of p)) }
     {
         let Builder {
-            heap,
             parts: slots,
-            scratch: _,
+            scratch,
         } = self;
-        let mut parts = Vec::with_capacity(heap, slots.len())?;
+        let mut parts = Vec::with_capacity(scratch.heap, slots.len())?;
         for slot in slots {
-            let Some(part) = slot else {
-                return Err(Fault::Range);
-            };
-            parts.push_reserved(part);
+            parts.push_reserved(slot.ok_or(Fault::Range)?);
         }
         Ok(Plan { parts })
     }

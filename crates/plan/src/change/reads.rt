@@ -12,36 +12,25 @@ use std::alloc::Global;
 use text::{Draft, format};
 
 // One text. Its switch is tested before its nodes are read.
-fn one(heap: Global, c: &mut Cursor, builder: &mut Builder) -> Result<(), Fault>
+fn one(c: &mut Cursor, builder: &mut Builder) -> Result<(), Fault>
     ensures value { Says (λ _. slots_of builder.new) result (rest c.new) (spec.text (slots_of builder.old) (rest c.old)) }
 {
-    let draft = Draft::new(heap)?;
-    let switch = match c.byte() {
-        Ok(switch) => switch,
-        Err(fault) => return Err(fault),
-    };
-    match builder.claim(switch) {
-        Ok(()) => {}
-        Err(fault) => return Err(fault),
-    }
-    match format::read_nodes(c, draft) {
-        Ok(text) => builder.put(switch, text),
-        Err(fault) => Err(fault),
-    }
+    let draft = Draft::new(builder.scratch.heap)?;
+    let switch = c.byte()?;
+    builder.claim(switch)?;
+    let text = format::read_nodes(c, draft)?;
+    builder.put(switch, text)
 }
 
 // Texts until the bytes end, of which there can be no more than switches.
-fn texts(heap: Global, c: &mut Cursor, builder: &mut Builder, switches: u8) -> Result<(), Fault>
+fn texts(c: &mut Cursor, builder: &mut Builder, switches: u8) -> Result<(), Fault>
     ensures value { Says (λ _. slots_of builder.new) result (rest c.new) (spec.texts switches (slots_of builder.old) (rest c.old)) }
 {
     for _i in 0..switches {
         if c.is_done() {
             return Ok(());
         }
-        match one(heap, c, builder) {
-            Ok(()) => {}
-            Err(fault) => return Err(fault),
-        }
+        one(c, builder)?;
     }
     if c.is_done() {
         Ok(())
@@ -57,15 +46,7 @@ pub fn read(heap: Global, bytes: &[u8], switches: u8) -> Result<Plan, Fault>
 {
     let mut builder = Builder::new(heap, switches)?;
     let mut c = Cursor::new(bytes);
-    let kind = match c.byte() {
-        Ok(kind) => kind,
-        Err(fault) => return Err(fault),
-    };
-    if kind != 66 {
-        return Err(Fault::Form);
-    }
-    match texts(heap, &mut c, &mut builder, switches) {
-        Ok(()) => builder.finish(),
-        Err(fault) => Err(fault),
-    }
+    c.kind(66)?;
+    texts(&mut c, &mut builder, switches)?;
+    builder.finish()
 }

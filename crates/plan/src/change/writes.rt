@@ -18,11 +18,8 @@ fn texts(out: &mut Vec<u8>, parts: &[Part]) -> Result<(), AllocError>
         (λ _. out.new.items ≡ out.old.items ++ spec.texts_bytes 0 (map text_in parts.now))
         (λ _. take (vec_len out.old) out.new.items ≡ out.old.items) }
 {
-    for i in 0..parts.len() {
-        match format::write(out, i as u8, parts[i].text()) {
-            Ok(()) => {}
-            Err(e) => return Err(e),
-        }
+    for (i, part) in parts.iter().enumerate() {
+        format::write(out, i as u8, part.text())?;
     }
     Ok(())
 }
@@ -35,22 +32,15 @@ pub fn write(out: &mut Vec<u8>, plan: &Plan) -> Result<(), AllocError>
     ensures back { spec.change (length (texts_of plan.now)) (spec.change_bytes (texts_of plan.now)) ≡ Read (texts_of plan.now) [] }
 {
     let start = out.len();
-    match out.extend_from_slice(&[66]) {
-        Ok(()) => {}
-        Err(e) => return Err(e),
+    out.push(66)?;
+    let written = texts(out, plan.parts.as_slice());
+    if written.is_err() {
+        out.truncate(start);
     }
-    match texts(out, plan.parts.as_slice()) {
-        Ok(()) => Ok(()),
-        Err(e) => {
-            out.truncate(start);
-            Err(e)
-        }
-    }
+    written
 }
 
 // What was written reads as the same texts.
-pub fn change_stands() -> u8
+pub fn change_stands()
     ensures reads_back { ReadsBack }
-{
-    0
-}
+{}

@@ -18,10 +18,9 @@ impl Plan {
     pub fn table(&self, switch: u8) -> Table<'_>
         ensures value { rules_in result ≡ (plan_of self.now).table switch }
     {
-        let i = switch as usize;
-        if i >= self.parts.len() {
-            return Table::new(&[]);
+        match self.parts.get(usize::from(switch)) {
+            Some(part) => part.table(),
+            None => Table::new(&[]),
         }
-        self.parts[i].table()
     }
 }

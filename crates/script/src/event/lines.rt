@@ -1,144 +1,102 @@
 // The printed line of an event.
-ghost use Rattle.std.specs.Prelude.{◌≡◌, ◌++◌, IfOk, string_bytes, OnOk};
+ghost use Rattle.std.specs.Prelude.{◌≡◌, Some, IfOk, string_bytes};
 ghost use Rattle.script.specs.Events as spec;
 
 use super::{Event, Held, Stage};
 use packet::Packet;
 use std::alloc::{AllocError, Global};
-use wire::{Frame, Mark};
+use std::fmt;
 
-// A word, and a number behind it.
-fn say(text: &mut String, word: &str, n: u16) -> Result<(), AllocError>
-    ensures made { OnOk result (string_bytes text.new ≡ string_bytes text.old ++ spec.said word.now n) }
-{
-    match write!(text, "{word}{n}") {
-        Ok(()) => Ok(()),
-        Err(_) => Err(AllocError),
+// The fields of a packet behind a blank, with commas between them.
+#[derive(Clone, Copy, Debug, PartialEq, Eq)]
+struct Fields(Packet);
+
+impl fmt::Display for Fields {
+    ghost output = { λ fields. Some (spec.packet_text fields.0) };
+
+    fn fmt<W: fmt::Write>(&self, f: &mut fmt::Formatter<W>) -> fmt::Result {
+        let Some((first, others)) = self.0.fields.split_first() else {
+            return Ok(());
+        };
+        write!(f, " {first}")?;
+        for field in others {
+            write!(f, ",{field}")?;
+        }
+        Ok(())
     }
 }
 
-// The fields of a packet behind a blank, with commas between them.
-fn packet(text: &mut String, packet: Packet) -> Result<(), AllocError>
-    ensures made { OnOk result (string_bytes text.new ≡ string_bytes text.old ++ spec.packet_text packet) }
-{
-    let [a, b, c, d, e, f, g, h] = packet.fields;
-    say(text, " ", a)?;
-    say(text, ",", b)?;
-    say(text, ",", c)?;
-    say(text, ",", d)?;
-    say(text, ",", e)?;
-    say(text, ",", f)?;
-    say(text, ",", g)?;
-    say(text, ",", h)
-}
+impl fmt::Display for Stage {
+    ghost output = { λ stage. Some (spec.stage_line stage) };
 
-fn left(
-    text: &mut String,
-    from: u8,
-    first: Packet,
-    version: u16,
-    at: u8,
-    last: Packet,
-) -> Result<(), AllocError>
-    ensures made { OnOk result (string_bytes text.new ≡ string_bytes text.old ++ spec.left_line from first version at last) }
-{
-    say(text, "left from ", from as u16)?;
-    packet(text, first)?;
-    say(text, " version ", version)?;
-    say(text, " at ", at as u16)?;
-    packet(text, last)
-}
-
-fn lost_frame(text: &mut String, switch: u8, port: u8, frame: Frame) -> Result<(), AllocError>
-    ensures made { OnOk result (string_bytes text.new ≡ string_bytes text.old ++ spec.lost_frame_line switch port frame) }
-{
-    say(text, "lost ", switch as u16)?;
-    say(text, " ", port as u16)?;
-    say(text, " frame ", frame.version)?;
-    say(text, " ", frame.hops as u16)?;
-    packet(text, frame.packet)
-}
-
-fn lost_mark(text: &mut String, switch: u8, port: u8, mark: Mark) -> Result<(), AllocError>
-    ensures made { OnOk result (string_bytes text.new ≡ string_bytes text.old ++ spec.lost_mark_line switch port mark) }
-{
-    say(text, "lost ", switch as u16)?;
-    say(text, " ", port as u16)?;
-    say(text, " mark ", mark.version)?;
-    say(text, " ", mark.round as u16)
-}
-
-fn stage(text: &mut String, stage: Stage) -> Result<(), AllocError>
-    ensures made { OnOk result (string_bytes text.new ≡ string_bytes text.old ++ spec.stage_line stage) }
-{
-    match stage {
-        Stage::Installing(v) => say(text, "stage installing ", v),
-        Stage::Stamping(v) => say(text, "stage stamping ", v),
-        Stage::Flushing(v, r) => {
-            say(text, "stage flushing ", v)?;
-            say(text, " ", r as u16)
+    fn fmt<W: fmt::Write>(&self, f: &mut fmt::Formatter<W>) -> fmt::Result {
+        match *self {
+            Stage::Installing(v) => write!(f, "stage installing {v}"),
+            Stage::Stamping(v) => write!(f, "stage stamping {v}"),
+            Stage::Flushing(v, r) => write!(f, "stage flushing {v} {r}"),
+            Stage::Removing(v) => write!(f, "stage removing {v}"),
+            Stage::Idle(v) => write!(f, "stage idle {v}"),
         }
-        Stage::Removing(v) => say(text, "stage removing ", v),
-        Stage::Idle(v) => say(text, "stage idle ", v),
     }
 }
 
 // Each version behind a blank.
-fn versions(text: &mut String, held: Held) -> Result<(), AllocError>
-    ensures made { OnOk result (string_bytes text.new ≡ string_bytes text.old ++ spec.held_text held) }
-{
-    match held {
-        Held::None => Ok(()),
-        Held::One(v) => say(text, " ", v),
-        Held::Two(v, w) => {
-            say(text, " ", v)?;
-            say(text, " ", w)
+impl fmt::Display for Held {
+    ghost output = { λ held. Some (spec.held_text held) };
+
+    fn fmt<W: fmt::Write>(&self, f: &mut fmt::Formatter<W>) -> fmt::Result {
+        match *self {
+            Held::None => Ok(()),
+            Held::One(v) => write!(f, " {v}"),
+            Held::Two(v, w) => write!(f, " {v} {w}"),
         }
     }
 }
 
-fn switch(
-    text: &mut String,
-    number: u8,
-    held: Held,
-    stamp: u16,
-    floor: u16,
-) -> Result<(), AllocError>
-    ensures made { OnOk result (string_bytes text.new ≡ string_bytes text.old ++ spec.switch_line number held stamp floor) }
-{
-    say(text, "switch ", number as u16)?;
-    text.push_str(" versions")?;
-    versions(text, held)?;
-    say(text, " stamp ", stamp)?;
-    say(text, " floor ", floor)
-}
+// The line, without its end.
+impl fmt::Display for Event {
+    ghost output = { λ event. Some (spec.line_of event) };
 
-fn event(text: &mut String, event: Event) -> Result<(), AllocError>
-    ensures made { OnOk result (string_bytes text.new ≡ string_bytes text.old ++ spec.line_of event) }
-{
-    match event {
-        Event::Left {
-            from,
-            first,
-            version,
-            at,
-            last,
-        } => left(text, from, first, version, at, last),
-        Event::LostFrame {
-            switch,
-            port,
-            frame,
-        } => lost_frame(text, switch, port, frame),
-        Event::LostMark { switch, port, mark } => lost_mark(text, switch, port, mark),
-        Event::Stage(s) => stage(text, s),
-        Event::Switch {
-            number,
-            versions,
-            stamp,
-            floor,
-        } => switch(text, number, versions, stamp, floor),
-        Event::Refused(fault) => say(text, "refused ", fault.number() as u16),
-        Event::Impossible => text.push_str("impossible"),
+    fn fmt<W: fmt::Write>(&self, f: &mut fmt::Formatter<W>) -> fmt::Result {
+        match *self {
+            Event::Left {
+                from,
+                first,
+                version,
+                at,
+                last,
+            } => {
+                let (first, last) = (Fields(first), Fields(last));
+                write!(f, "left from {from}{first} version {version} at {at}{last}")
+            }
+            Event::LostFrame {
+                switch,
+                port,
+                frame,
+            } => {
+                let (version, hops, fields) = (frame.version, frame.hops, Fields(frame.packet));
+                write!(f, "lost {switch} {port} frame {version} {hops}{fields}")
+            }
+            Event::LostMark { switch, port, mark } => {
+                let (version, round) = (mark.version, mark.round);
+                write!(f, "lost {switch} {port} mark {version} {round}")
+            }
+            Event::Stage(stage) => write!(f, "{stage}"),
+            Event::Switch {
+                number,
+                versions,
+                stamp,
+                floor,
+            } => write!(
+                f,
+                "switch {number} versions{versions} stamp {stamp} floor {floor}"
+            ),
+            Event::Refused(fault) => {
+                let number = fault.number().unwrap_or(0);
+                write!(f, "refused {number}")
+            }
+            Event::Impossible => f.write_str("impossible"),
+        }
     }
 }
 
@@ -148,7 +106,7 @@ impl Event {
         ensures made { IfOk result (λ s. string_bytes s ≡ spec.line_of self) }
     {
         let mut text = String::new(heap);
-        event(&mut text, self)?;
+        write!(text, "{self}")?;
         Ok(text)
     }
 }

@@ -1,7 +1,6 @@
 // The lines between `net` and `start`.
 ghost use Rattle.std.specs.Prelude.{◌≡◌, Some};
 ghost use Rattle.notation.specs.Words.{left};
-ghost use Rattle.script.specs.Described.{KeptIn};
 ghost use Rattle.script.specs.Scripts.{Goes};
 ghost use Rattle.script.specs.Scripts as spec;
 
@@ -9,6 +8,7 @@ use super::Placed;
 use super::description::Description;
 use super::headings::Heading;
 use crate::line::text;
+use crate::numbers::end;
 use notation::{Mark, Words, cut};
 use octets::Fault;
 
@@ -20,7 +20,7 @@ pub(crate) struct Draft<'a> {
 }
 
 // The header goes on, or it has come to `start`.
-#[derive(Clone, Copy)]
+#[derive(Clone, Copy, Debug, PartialEq, Eq)]
 pub(crate) enum Went {
     On,
     Begun,
@@ -29,7 +29,6 @@ pub(crate) enum Went {
 impl<'a> Draft<'a> {
     // The words behind the first one of a line.
     fn words(&mut self, line: usize, heading: Heading, words: &mut Words<'a>) -> Result<Went, Fault>
-        requires kept { KeptIn self.old.description }
         ensures value { Goes result self.new (spec.of_heading line (spec.sofar_of self.old) (Some heading) words.old.bytes.now (left words.old)) }
     {
         match heading {
@@ -48,9 +47,7 @@ impl<'a> Draft<'a> {
                 Ok(Went::On)
             }
             Heading::Start => {
-                if !words.is_done() {
-                    return Err(Fault::Form);
-                }
+                end(words)?;
                 Ok(Went::Begun)
             }
         }
@@ -58,7 +55,6 @@ impl<'a> Draft<'a> {
 
     // A line. After a fault the draft is of no more use.
     pub(crate) fn line(&mut self, line: usize, bytes: &'a [u8]) -> Result<Went, Fault>
-        requires kept { KeptIn self.old.description }
         ensures value { Goes result self.new (spec.line_in line (spec.sofar_of self.old) bytes.now) }
     {
         let (front, _) = cut(bytes, Mark::Hash);
@@ -66,9 +62,7 @@ impl<'a> Draft<'a> {
         let Some(word) = words.next() else {
             return Ok(Went::On);
         };
-        let Some(heading) = Heading::of(word) else {
-            return Err(Fault::Form);
-        };
+        let heading = Heading::try_from(word)?;
         self.words(line, heading, &mut words)
     }
 }

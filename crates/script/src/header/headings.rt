@@ -1,10 +1,11 @@
 // The words that begin a line of a header.
-ghost use Rattle.std.specs.Prelude.{◌≡◌};
+ghost use Rattle.std.specs.Prelude.{◌≡◌, None, Some, MatchResult};
+ghost use Rattle.octets.specs.declared.fault.Fault.TheVariants.{Form};
 ghost use Rattle.script.specs.Headings as spec;
 
-use notation::same_word;
+use octets::Fault;
 
-#[derive(Clone, Copy)]
+#[derive(Clone, Copy, Debug, PartialEq, Eq)]
 pub enum Heading {
     Net,
     Cable,
@@ -13,22 +14,26 @@ pub enum Heading {
     Start,
 }
 
-impl Heading {
-    pub fn of(word: &[u8]) -> Option<Heading>
-        ensures value { result ≡ spec.heading_of word.now }
+impl TryFrom<&[u8]> for Heading {
+    type Error = Fault;
+
+    #[tactic(auto, unfolding(notation::specs::Kinds::same_word))]
+    fn try_from(word: &[u8]) -> Result<Heading, Fault>
+        ensures cases { MatchResult result (λ h. spec.heading_of word.now ≡ Some h) (λ e. (spec.heading_of word.now ≡ None) × (e ≡ Form)) }
     {
-        if same_word(word, b"net") {
-            Some(Heading::Net)
-        } else if same_word(word, b"cable") {
-            Some(Heading::Cable)
-        } else if same_word(word, b"outside") {
-            Some(Heading::Outside)
-        } else if same_word(word, b"text") {
-            Some(Heading::Text)
-        } else if same_word(word, b"start") {
-            Some(Heading::Start)
+        let is = |name: &[u8]| word == name;
+        if is(b"net") {
+            Ok(Heading::Net)
+        } else if is(b"cable") {
+            Ok(Heading::Cable)
+        } else if is(b"outside") {
+            Ok(Heading::Outside)
+        } else if is(b"text") {
+            Ok(Heading::Text)
+        } else if is(b"start") {
+            Ok(Heading::Start)
         } else {
-            None
+            Err(Fault::Form)
         }
     }
 }

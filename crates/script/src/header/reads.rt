@@ -1,15 +1,16 @@
 // Reading a header.
-ghost use Rattle.std.specs.Prelude.{◌≡◌, ◌+◌, ◌^◌, ◌<◌, length};
+ghost use Rattle.std.specs.Prelude.{◌≡◌};
 ghost use Rattle.notation.specs.declared.marks.Mark.TheVariants.{Newline};
 ghost use Rattle.notation.specs.Marks.{parts};
-ghost use Rattle.script.specs.Described.{KeptIn, layout_of};
+ghost use Rattle.script.specs.Described.{layout_of};
 ghost use Rattle.script.specs.Scripts.{Headed, Opened};
 ghost use Rattle.script.specs.Scripts as spec;
 
 use super::Header;
 use super::description::Description;
 use super::draft::{Draft, Went};
-use notation::{Mark, Refusal, Words, cut, same_word};
+use super::lines::Lines;
+use notation::{Mark, Refusal, Words, cut};
 use octets::Fault;
 use std::alloc::Global;
 
@@ -29,47 +30,36 @@ fn begin<'a>(
     line: usize,
     rest: &'a [u8],
 ) -> Result<Option<Header<'a>>, Refusal>
-    requires kept { KeptIn draft.description }
     ensures value { Headed result (spec.started_at (spec.sofar_of draft.entry) line rest.now) }
 {
     let Draft { description, texts } = draft;
-    match description.bytes(heap) {
-        Ok(cables) => Ok(Some(Header {
-            cables,
-            texts,
-            line,
-            rest,
-        })),
-        Err(fault) => Err(refused(fault, line)),
-    }
+    let cables = description
+        .bytes(heap)
+        .map_err(|fault| refused(fault, line))?;
+    Ok(Some(Header {
+        cables,
+        texts,
+        line,
+        rest,
+    }))
 }
 
-// The lines behind `net`, which was line `before`.
+// The lines behind `net`.
 fn describe<'a>(
     heap: Global,
     description: Description,
-    lines: &'a [u8],
-    before: usize,
+    mut lines: Lines<'a>,
 ) -> Result<Option<Header<'a>>, Refusal>
-    requires kept { KeptIn description }
-    requires few { before + length lines.now < 2 ^ 64 }
-    ensures value { Headed result (spec.describing before (spec.opened (layout_of description)) (parts Newline lines.now)) }
+    ensures value { Headed result (spec.describing lines.entry.before (spec.opened (layout_of description)) (parts Newline lines.entry.left.now)) }
 {
     let mut draft = Draft {
         description,
         texts: Vec::new(heap),
     };
-    let mut left = lines;
-    let mut line = before;
-    while !left.is_empty() {
-        let (here, rest) = cut(left, Mark::Newline);
-        left = rest;
-        line += 1;
-        match draft.line(line, here) {
-            Ok(went) => match went {
-                Went::On => {}
-                Went::Begun => return begin(heap, draft, line, rest),
-            },
+    while let Some((line, bytes)) = lines.next() {
+        match draft.line(line, bytes) {
+            Ok(Went::On) => {}
+            Ok(Went::Begun) => return begin(heap, draft, line, lines.left()),
             Err(fault) => return Err(refused(fault, line)),
         }
     }
@@ -77,6 +67,7 @@ fn describe<'a>(
 }
 
 // A line before `net`: blank, or `net`.
+#[tactic(auto, unfolding(notation::specs::Kinds::same_word))]
 fn first(heap: Global, bytes: &[u8]) -> Result<Option<Description>, Fault>
     ensures value { Opened result (spec.first_in bytes.now) }
 {
@@ -85,7 +76,7 @@ fn first(heap: Global, bytes: &[u8]) -> Result<Option<Description>, Fault>
     let Some(word) = words.next() else {
         return Ok(None);
     };
-    if !same_word(word, b"net") {
+    if word != b"net".as_slice() {
         return Err(Fault::Form);
     }
     let description = Description::net(heap, &mut words)?;
@@ -96,17 +87,11 @@ fn first(heap: Global, bytes: &[u8]) -> Result<Option<Description>, Fault>
 pub fn read<'a>(heap: Global, script: &'a [u8]) -> Result<Option<Header<'a>>, Refusal>
     ensures value { Headed result (spec.header_in script.now) }
 {
-    let mut left = script;
-    let mut line: usize = 0;
-    while !left.is_empty() {
-        let (here, rest) = cut(left, Mark::Newline);
-        left = rest;
-        line += 1;
-        match first(heap, here) {
-            Ok(found) => match found {
-                None => {}
-                Some(description) => return describe(heap, description, rest, line),
-            },
+    let mut lines = Lines::new(script);
+    while let Some((line, bytes)) = lines.next() {
+        match first(heap, bytes) {
+            Ok(None) => {}
+            Ok(Some(description)) => return describe(heap, description, lines),
             Err(fault) => return Err(refused(fault, line)),
         }
     }

@@ -8,7 +8,7 @@ use super::{Line, TextLine};
 use crate::numbers::number;
 use crate::step;
 use crate::step::Verb;
-use notation::{Mark, Words, cut, same_word};
+use notation::{Mark, Words, cut};
 use octets::Fault;
 use std::alloc::Global;
 
@@ -21,15 +21,14 @@ pub(crate) fn text<'a>(words: &mut Words<'a>) -> Result<TextLine<'a>, Fault>
     Ok(TextLine { switch, nodes })
 }
 
+#[tactic(auto, unfolding(notation::specs::Kinds::same_word))]
 fn of_words<'a>(heap: Global, word: &[u8], words: &mut Words<'a>) -> Result<Line<'a>, Fault>
     ensures value { Says spec.line_of result [] (spec.worded word.now words.old.bytes.now (left words.old)) }
 {
-    if same_word(word, b"text") {
+    if word == b"text".as_slice() {
         return Ok(Line::Text(text(words)?));
     }
-    let Some(verb) = Verb::of(word) else {
-        return Err(Fault::Form);
-    };
+    let verb = Verb::try_from(word)?;
     Ok(Line::Step(step::read(heap, verb, words)?))
 }
 

@@ -4,68 +4,41 @@ ghost use Rattle.notation.specs.Words.{left};
 ghost use Rattle.notation.specs.Reading.{and_then, ended};
 ghost use Rattle.notation.specs.Readers.{told};
 ghost use Rattle.script.specs.declared.step.verbs.Verb.TheVariants.{Raw};
-ghost use Rattle.script.specs.Verbs.{order_kind_of, target_of};
 ghost use Rattle.script.specs.Steps as spec;
 ghost use Rattle.script.specs.Readers.{Says};
 
-use super::verbs::{OrderKind, Target, Verb};
+use super::verbs::{Target, Verb, order_kind};
 use super::{Named, Step};
-use crate::numbers::{hex, number};
+use crate::numbers::{bytes, end, number};
 use notation::Words;
 use octets::Fault;
 use std::alloc::Global;
+use wire::order::Kind;
 
 // Eight numbers.
 fn fields(words: &mut Words) -> Result<[u32; 8], Fault>
     ensures value { told result (left words.new) ≡ spec.numbers 8 [] (left words.old) }
 {
-    let a = number(words)?;
-    let b = number(words)?;
-    let c = number(words)?;
-    let d = number(words)?;
-    let e = number(words)?;
-    let f = number(words)?;
-    let g = number(words)?;
-    let h = number(words)?;
-    Ok([a, b, c, d, e, f, g, h])
-}
-
-fn order_kind(words: &mut Words) -> Result<OrderKind, Fault>
-    ensures value { told result (left words.new) ≡ spec.called order_kind_of (left words.old) }
-{
-    let Some(word) = words.next() else {
-        return Err(Fault::Form);
-    };
-    let Some(kind) = OrderKind::of(word) else {
-        return Err(Fault::Form);
-    };
-    Ok(kind)
-}
-
-fn target(words: &mut Words) -> Result<Target, Fault>
-    ensures value { told result (left words.new) ≡ spec.called target_of (left words.old) }
-{
-    let Some(word) = words.next() else {
-        return Err(Fault::Form);
-    };
-    let Some(target) = Target::of(word) else {
-        return Err(Fault::Form);
-    };
-    Ok(target)
+    let mut fields = [0; 8];
+    for field in &mut fields {
+        *field = number(words)?;
+    }
+    Ok(fields)
 }
 
 // An order: its word, its version, and for a round its round.
 fn order(words: &mut Words) -> Result<Named, Fault>
     ensures value { told result (left words.new) ≡ spec.ordered (left words.old) }
 {
-    let kind = order_kind(words)?;
+    let word = words.next().ok_or(Fault::Form)?;
+    let kind = order_kind(word)?;
     let version = number(words)?;
-    match kind {
-        OrderKind::Install => Ok(Named::Install(version)),
-        OrderKind::Stamp => Ok(Named::Stamp(version)),
-        OrderKind::Round => Ok(Named::Round(version, number(words)?)),
-        OrderKind::Remove => Ok(Named::Remove(version)),
-    }
+    Ok(match kind {
+        Kind::Install => Named::Install(version),
+        Kind::Stamp => Named::Stamp(version),
+        Kind::Round => Named::Round(version, number(words)?),
+        Kind::Remove => Named::Remove(version),
+    })
 }
 
 // A switch and a port.
@@ -81,16 +54,15 @@ fn pair(words: &mut Words) -> Result<(u32, u32), Fault>
 fn raw_bytes(heap: Global, words: &mut Words) -> Result<Vec<u8>, Fault>
     ensures value { Says vec_items result (left words.new) (spec.called spec.hex_of (left words.old)) }
 {
-    let Some(word) = words.next() else {
-        return Err(Fault::Form);
-    };
-    hex(heap, word)
+    let word = words.next().ok_or(Fault::Form)?;
+    bytes(heap, word)
 }
 
 fn raw(heap: Global, words: &mut Words) -> Result<Step, Fault>
     ensures value { Says spec.step_of result (left words.new) (spec.of_verb Raw (left words.old)) }
 {
-    match target(words)? {
+    let word = words.next().ok_or(Fault::Form)?;
+    match Target::try_from(word)? {
         Target::Switch => {
             let switch = number(words)?;
             let bytes = raw_bytes(heap, words)?;
@@ -142,8 +114,6 @@ pub fn read(heap: Global, verb: Verb, words: &mut Words) -> Result<Step, Fault>
     ensures value { Says spec.step_of result [] (and_then (spec.of_verb verb (left words.old)) ended) }
 {
     let step = behind(heap, verb, words)?;
-    if !words.is_done() {
-        return Err(Fault::Form);
-    }
+    end(words)?;
     Ok(step)
 }

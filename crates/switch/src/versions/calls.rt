@@ -1,24 +1,33 @@
 // How the versions are read and changed.
-ghost use Rattle.std.specs.Prelude.{◌≡◌, ◌<◌, ◌≤◌, true, false, [], ◌∷◌, take, IfSome, MatchOption};
+ghost use Rattle.std.specs.Prelude.{◌≡◌, ◌<◌, ◌≤◌, ◌==◌, false, [], ◌∷◌, length, IfSome, MatchOption, MatchResult};
+ghost use Rattle.std.specs.List.{find};
 ghost use Rattle.run.specs.Switch.{knows, without};
-ghost use Rattle.switch.specs.Holding.{Places, slots, used};
+ghost use Rattle.switch.specs.Holding.{Places, held_in, slots, used};
 ghost use Rattle.switch.specs.Model.{Added, Lies, held_of, one};
 
-use super::held::{is_used, keep_others, place_of};
-use super::{Held, SLOTS, Versions};
+use super::{Full, Held, SLOTS, TakenIn, Versions};
 
 impl Versions {
     // Version 0, in place 0.
     pub fn first() -> Versions
         ensures value { (tables : Places) → held_of tables result ≡ one 0 (tables 0) ∷ [] }
     {
+        let first = Held {
+            version: 0,
+            place: 0,
+        };
         Versions {
-            held: [Held {
-                version: 0,
-                place: 0,
-            }; SLOTS],
-            count: 1,
+            held: [Some(first), None],
         }
+    }
+
+    fn find(self, version: u16) -> Option<Held>
+        ensures value { result ≡ find (λ x. x.version == version) (held_in self.held) }
+    {
+        self.held
+            .into_iter()
+            .flatten()
+            .find(|held| held.version == version)
     }
 
     // The place of a version that is there.
@@ -26,56 +35,52 @@ impl Versions {
         ensures within { IfSome result (λ p. p < slots) }
         ensures cases { (tables : Places) → Lies version (held_of tables self) tables result }
     {
-        place_of(&self.held[..self.count], version)
+        self.find(version).map(|held| held.place)
     }
 
     pub fn knows(self, version: u16) -> bool
         ensures value { (tables : Places) → result ≡ knows version (held_of tables self) }
     {
-        match self.place(version) {
-            None => false,
-            Some(_) => true,
-        }
+        self.find(version).is_some()
+    }
+
+    fn is_used(self, place: usize) -> bool
+        ensures value { result ≡ used place (held_in self.held) }
+    {
+        self.held
+            .into_iter()
+            .flatten()
+            .any(|held| held.place == place)
     }
 
     // A place that no version has.
     fn free(self) -> Option<usize>
-        ensures cases { MatchOption result (slots ≤ self.count) (λ p. (p < slots) × (used p (take self.count self.held) ≡ false)) }
+        ensures cases { MatchOption result (slots ≤ length (held_in self.held)) (λ p. (p < slots) × (used p (held_in self.held) ≡ false)) }
     {
-        for place in 0..SLOTS {
-            if !is_used(&self.held[..self.count], place) {
-                return Some(place);
-            }
-        }
-        None
+        (0..SLOTS).find(|place| !self.is_used(*place))
     }
 
-    // One version more, whose table goes into the place that is answered; None where all places are in use.
-    pub fn take_in(self, version: u16) -> Option<(Versions, usize)>
-        ensures cases { MatchOption result (self.count ≡ slots) (λ x. Added version self x.0 x.1) }
+    // One version more, behind the others.
+    pub fn take_in(self, version: u16) -> Result<TakenIn, Full>
+        ensures cases { MatchResult result (λ x. Added version self x.versions x.place) (λ _. length (held_in self.held) ≡ slots) }
     {
-        if self.count == SLOTS {
-            return None;
-        }
-        let Some(place) = self.free() else {
-            return None;
+        let ([first, None] | [None, first]) = self.held else {
+            return Err(Full);
         };
-        let mut held = self.held;
-        held[self.count] = Held { version, place };
-        Some((
-            Versions {
-                held,
-                count: self.count + 1,
-            },
-            place,
-        ))
+        let place = self.free().ok_or(Full)?;
+        let versions = Versions {
+            held: [first, Some(Held { version, place })],
+        };
+        Ok(TakenIn { versions, place })
     }
 
     pub fn without(self, version: u16) -> Versions
         ensures after { (tables : Places) → held_of tables result ≡ without version (held_of tables self) }
     {
-        let mut held = self.held;
-        let count = keep_others(&mut held, self.count, version);
-        Versions { held, count }
+        Versions {
+            held: self
+                .held
+                .map(|held| held.filter(|held| held.version != version)),
+        }
     }
 }

@@ -1,41 +1,29 @@
 // How a table is made and used.
-ghost use Rattle.std.specs.Prelude.{◌≡◌, ◌≤◌, ◌++◌, length, take, string_bytes, MatchResult, OnOk};
+ghost use Rattle.std.specs.Prelude.{◌≡◌, ◌++◌, length, string_bytes, MatchResult, OnOk};
+ghost use Rattle.packet.specs.Copies.{listing};
 ghost use Rattle.packet.specs.Table.{sent};
 ghost use Rattle.table.specs.Bytes.{table_bytes};
 ghost use Rattle.table.specs.Good.{ReadsBack, WritesBack};
 ghost use Rattle.table.specs.Lines.{table_text};
-ghost use Rattle.table.specs.Views.{copies_of, rules_in};
+ghost use Rattle.table.specs.Views.{rules_in};
 ghost use Rattle.table.specs.Words.{Sound, sound, kept};
 
 use super::Table;
-use crate::sent::Sent;
-use crate::{lines, matching, places, writes};
-use packet::Packet;
+use crate::rules::Rules;
+use crate::{matching, sound, writes};
+use packet::{Copies, Packet};
 use std::alloc::AllocError;
-
-// Whether the words are a table.
-pub fn is_table(words: &[u16]) -> bool
-    ensures value { result ≡ sound words.now }
-{
-    places::are_sound(words)
-}
-
-// How many of the words count: all of them, or none.
-fn counted(words: &[u16]) -> usize
-    ensures value { take result words.now ≡ kept words.now }
-    ensures within { result ≤ length words.now }
-{
-    if is_table(words) { words.len() } else { 0 }
-}
 
 impl<'a> Table<'a> {
     // The table that stands in the words. Words that are none give a table without rules.
+    #[tactic(auto, using(crate::proofs::Reading::sound_none))]
     pub fn new(words: &'a [u16]) -> Table<'a>
         ensures value { result.words.now ≡ kept words.now }
     {
-        Table {
-            words: &words[..counted(words)],
+        if !sound::is_table(words) {
+            return Table { words: &[] };
         }
+        Table { words }
     }
 
     // The table that stands in words of which this is known, so that none of them is looked at.
@@ -53,13 +41,21 @@ impl<'a> Table<'a> {
         self.words
     }
 
-    // The copies that the first rule gives whose wants the packet meets, each once, in the order of its outs.
-    pub fn send(self, p: Packet) -> Sent
-        ensures value { copies_of result ≡ sent (rules_in self.entry) p.fields }
+    // The rules, the first one first.
+    pub fn rules(self) -> Rules<'a>
+        ensures value { rules_in result.left ≡ rules_in self.entry }
     {
-        match matching::first_match(self.words, p) {
-            Some(outs) => matching::copies(self.words, outs, p),
-            None => Sent::none(),
+        Rules { left: self }
+    }
+
+    // The copies that the first rule gives whose wants the packet meets, each once, in the order of its outs.
+    #[tactic(auto, unfolding(packet::specs::Table::outputs, packet::specs::Packet::once))]
+    pub fn send(self, p: Packet) -> Copies<16>
+        ensures value { listing result ≡ sent (rules_in self.entry) p.fields }
+    {
+        match matching::first_match(self, p) {
+            Some(rule) => matching::copies(rule.outs, p),
+            None => Copies::none(),
         }
     }
 
@@ -67,7 +63,7 @@ impl<'a> Table<'a> {
     pub fn rule_count(self) -> usize
         ensures value { result ≡ length (rules_in self.entry) }
     {
-        writes::count(self.words)
+        self.rules().count()
     }
 
     // Puts the table's bytes behind what is there, or changes nothing where no memory is left.
@@ -76,21 +72,20 @@ impl<'a> Table<'a> {
             (λ _. out.new.items ≡ out.old.items ++ table_bytes (rules_in self.entry))
             (λ _. out.new.items ≡ out.old.items) }
     {
-        writes::table(out, self.words)
+        writes::table(out, self)
     }
 
     // Puts the printed lines of the rules behind the text.
     pub fn print(self, text: &mut String) -> Result<(), AllocError>
         ensures made { OnOk result (string_bytes text.new ≡ string_bytes text.old ++ table_text (rules_in self.entry)) }
     {
-        lines::rules(text, self.words)
+        let table = self;
+        write!(text, "{table}")
     }
 }
 
 // What tables and their words have to do with each other.
-pub fn layout_stands() -> u8
+pub fn layout_stands()
     ensures reads_back { ReadsBack }
     ensures writes_back { WritesBack }
-{
-    0
-}
+{}

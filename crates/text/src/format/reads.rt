@@ -5,18 +5,8 @@ ghost use Rattle.text.specs.Format as spec;
 ghost use Rattle.text.specs.Texts.{drafted, nodes_of, assignment_of};
 
 use crate::node::{Node, Sort};
-use crate::texts::{Assigned, Draft, Text};
+use crate::texts::{Assigned, Draft, MOST, Text};
 use octets::{Cursor, Fault};
-
-fn field(c: &mut Cursor) -> Result<u8, Fault>
-    ensures value { told result (rest c.new) ≡ spec.field (rest c.old) }
-{
-    let f = c.byte()?;
-    if f > 7 {
-        return Err(Fault::Range);
-    }
-    Ok(f)
-}
 
 fn operand(c: &mut Cursor, draft: &Draft, want: Sort) -> Result<u16, Fault>
     ensures value { told result (rest c.new) ≡ spec.operand want (drafted draft.now) (rest c.old) }
@@ -32,50 +22,39 @@ fn operand(c: &mut Cursor, draft: &Draft, want: Sort) -> Result<u16, Fault>
 fn node(c: &mut Cursor, draft: &Draft) -> Result<Node, Fault>
     ensures value { told result (rest c.new) ≡ spec.node (drafted draft.now) (rest c.old) }
 {
-    let kind = c.byte()?;
-    match kind {
-        1 => Ok(Node::Always),
-        2 => {
-            let f = field(c)?;
-            Ok(Node::Is(f, c.word()?))
-        }
-        3 => {
-            let a = operand(c, draft, Sort::Test)?;
-            Ok(Node::Both(a, operand(c, draft, Sort::Test)?))
-        }
-        4 => {
-            let a = operand(c, draft, Sort::Test)?;
-            Ok(Node::Either(a, operand(c, draft, Sort::Test)?))
-        }
-        5 => Ok(Node::Not(operand(c, draft, Sort::Test)?)),
-        6 => Ok(Node::Keep(operand(c, draft, Sort::Test)?)),
-        7 => {
-            let f = field(c)?;
-            Ok(Node::Put(f, c.word()?))
-        }
-        8 => {
-            let a = operand(c, draft, Sort::Policy)?;
-            Ok(Node::And(a, operand(c, draft, Sort::Policy)?))
-        }
-        9 => {
-            let a = operand(c, draft, Sort::Policy)?;
-            Ok(Node::Then(a, operand(c, draft, Sort::Policy)?))
-        }
-        _ => Err(Fault::Form),
-    }
+    Ok(match c.byte()? {
+        1 => Node::Always,
+        2 => Node::Is(c.below(8)?, c.word()?),
+        3 => Node::Both(
+            operand(c, draft, Sort::Test)?,
+            operand(c, draft, Sort::Test)?,
+        ),
+        4 => Node::Either(
+            operand(c, draft, Sort::Test)?,
+            operand(c, draft, Sort::Test)?,
+        ),
+        5 => Node::Not(operand(c, draft, Sort::Test)?),
+        6 => Node::Keep(operand(c, draft, Sort::Test)?),
+        7 => Node::Put(c.below(8)?, c.word()?),
+        8 => Node::And(
+            operand(c, draft, Sort::Policy)?,
+            operand(c, draft, Sort::Policy)?,
+        ),
+        9 => Node::Then(
+            operand(c, draft, Sort::Policy)?,
+            operand(c, draft, Sort::Policy)?,
+        ),
+        _ => return Err(Fault::Form),
+    })
 }
 
-fn nodes(c: &mut Cursor, draft: Draft, count: u16) -> Result<Draft, Fault>
+fn nodes(c: &mut Cursor, mut draft: Draft, count: u16) -> Result<Draft, Fault>
     requires few { count ≤ 512 }
     ensures value { told_as drafted result (rest c.new) ≡ spec.nodes count [] (rest c.old) }
 {
-    let mut draft = draft;
     draft.clear();
     for _i in 0..count {
-        let n = match node(c, &draft) {
-            Ok(n) => n,
-            Err(fault) => return Err(fault),
-        };
+        let n = node(c, &draft)?;
         draft.push(n);
     }
     Ok(draft)
@@ -88,26 +67,18 @@ pub fn read_nodes(c: &mut Cursor, draft: Draft) -> Result<Text, Fault>
     let Ok(count) = c.word() else {
         return Err(Fault::Form);
     };
-    if count < 1 || count > 512 {
+    if count < 1 || usize::from(count) > MOST {
         return Err(Fault::Range);
     }
     let draft = nodes(c, draft, count)?;
-    let Some(text) = draft.finish() else {
-        return Err(Fault::Range);
-    };
-    Ok(text)
+    Ok(draft.finish().unwrap())
 }
 
 // A text for one of so many switches. It is written over what the draft holds.
 pub fn read(c: &mut Cursor, draft: Draft, switches: u8) -> Result<Assigned, Fault>
     ensures value { told_as assignment_of result (rest c.new) ≡ spec.text switches (rest c.old) }
 {
-    let Ok(switch) = c.byte() else {
-        return Err(Fault::Form);
-    };
-    if switch >= switches {
-        return Err(Fault::Range);
-    }
+    let switch = c.below(switches)?;
     let text = read_nodes(c, draft)?;
     Ok(Assigned { switch, text })
 }
@@ -118,8 +89,6 @@ pub fn read_alone(draft: Draft, switches: u8, bytes: &[u8]) -> Result<Assigned, 
 {
     let mut c = Cursor::new(bytes);
     let text = read(&mut c, draft, switches)?;
-    if !c.is_done() {
-        return Err(Fault::Form);
-    }
+    c.end()?;
     Ok(text)
 }

@@ -3,12 +3,9 @@ ghost use Rattle.std.specs.Prelude.{◌≡◌, ◌≤◌, true, [], length, IfOk
 ghost use Rattle.text.specs.Nodes.{fits, fitting, sound};
 ghost use Rattle.text.specs.Texts.{nodes_of, drafted, Added, Finished};
 
-use super::{Draft, Text};
+use super::{Draft, MOST, Text};
 use crate::node::{Node, Sort};
 use std::alloc::{AllocError, Global};
-
-// The most nodes of a text.
-const MOST: usize = 512;
 
 impl Text {
     pub fn nodes(&self) -> &[Node]
@@ -19,18 +16,21 @@ impl Text {
     {
         self.nodes.as_slice()
     }
+}
 
-    // Another text of the same nodes.
-    pub fn copy(&self, heap: Global) -> Result<Text, AllocError>
-        ensures made { IfOk result (λ t. nodes_of t ≡ nodes_of self.now) }
-    {
-        let nodes = Vec::from_slice(heap, self.nodes.as_slice())?;
+// Another text of the same nodes.
+impl Clone for Text {
+    ghost is_clone = { λ text copy. nodes_of copy ≡ nodes_of text };
+
+    fn clone(&self) -> Result<Text, AllocError> {
+        let nodes = self.nodes.clone()?;
         Ok(Text { nodes })
     }
 }
 
 impl Draft {
     // All the room that a text may want.
+    #[tactic(auto, unfolding(crate::specs::Nodes::sound))]
     pub fn new(heap: Global) -> Result<Draft, AllocError>
         ensures made { IfOk result (λ d. drafted d ≡ []) }
     {
@@ -39,6 +39,7 @@ impl Draft {
     }
 
     // Forgets the nodes and keeps the room.
+    #[tactic(auto, unfolding(crate::specs::Nodes::sound))]
     pub fn clear(&mut self)
         ensures after { drafted self.new ≡ [] }
     {
@@ -55,11 +56,10 @@ impl Draft {
     pub fn has(&self, want: Sort, k: u16) -> bool
         ensures value { result ≡ fitting want (drafted self.now) k }
     {
-        let k = k as usize;
-        if k >= self.nodes.len() {
-            return false;
+        match self.nodes.get(usize::from(k)) {
+            Some(n) => n.sort() == want,
+            None => false,
         }
-        self.nodes[k].sort().is(want)
     }
 
     fn takes(&self, n: Node) -> bool
@@ -77,6 +77,7 @@ impl Draft {
     }
 
     // One node more, if it fits and there are fewer than 512. Else false, and nothing changes.
+    #[tactic(auto, using(crate::proofs::Sound::sound_push))]
     pub fn push(&mut self, n: Node) -> bool
         ensures cases { Added n (drafted self.old) result (drafted self.new) }
     {

@@ -1,136 +1,102 @@
 // Reading a list of cables.
-ghost use Rattle.std.specs.Prelude.{◌≡◌, ◌≤◌, []};
+ghost use Rattle.std.specs.Prelude.{◌≡◌, ◌<◌, ◌≤◌, [], IfOk};
 ghost use Rattle.octets.specs.Readers.{told, told_as, rest};
-ghost use Rattle.wire.specs.Numbers.{alone};
-ghost use Rattle.wire.specs.Wires.{wires_of};
+ghost use Rattle.octets.specs.Parse.{alone};
 ghost use Rattle.wire.specs.Cables.{layout_of};
 ghost use Rattle.wire.specs.Layouts as spec;
+ghost use Rattle.wire.specs.Nets.{wires_in, Alike};
+ghost use Rattle.wire.specs.Reading.{Reads};
 
 use super::Cables;
-use crate::board::{Board, Wire};
-use crate::numbers::{below, between};
+use crate::net::Net;
 use octets::{Cursor, Fault};
 
 // A port of a switch on which nothing hangs.
-fn free_port(c: &mut Cursor, board: &Board, ports: u8, switch: u8) -> Result<u8, Fault>
-    ensures value { told result (rest c.new) ≡ spec.free_port ports (wires_of board.now) switch (rest c.old) }
+fn free_port(c: &mut Cursor, net: &Net, switch: u8) -> Result<u8, Fault>
+    ensures value { told result (rest c.new) ≡ spec.free_port net.now.ports (wires_in net.now) switch (rest c.old) }
+    ensures there { IfOk result (λ p. p < net.now.ports) }
 {
-    let p = below(c, ports)?;
-    if !board.at(switch, p).is_free() {
-        return Err(Fault::Port);
-    }
-    Ok(p)
+    let port = c.below(net.ports())?;
+    net.check_free(switch, port)?;
+    Ok(port)
 }
 
 // A port of a switch that is on no cable.
-fn open_port(c: &mut Cursor, board: &Board, ports: u8, switch: u8) -> Result<u8, Fault>
-    ensures value { told result (rest c.new) ≡ spec.open_port ports (wires_of board.now) switch (rest c.old) }
+fn open_port(c: &mut Cursor, net: &Net, switch: u8) -> Result<u8, Fault>
+    ensures value { told result (rest c.new) ≡ spec.open_port net.now.ports (wires_in net.now) switch (rest c.old) }
+    ensures there { IfOk result (λ p. p < net.now.ports) }
 {
-    let p = below(c, ports)?;
-    if board.at(switch, p).is_cable() {
-        return Err(Fault::Port);
-    }
-    Ok(p)
+    let port = c.below(net.ports())?;
+    net.check_open(switch, port)?;
+    Ok(port)
 }
 
 // One end holds its port while the other one is read.
-fn cable(c: &mut Cursor, board: &mut Board, switches: u8, ports: u8) -> Result<(), Fault>
-    requires few { switches ≤ 24 }
-    requires narrow { ports ≤ 32 }
-    ensures value { told_as (λ _. wires_of board.new) result (rest c.new)
-        ≡ spec.cable switches ports (wires_of board.old) (rest c.old) }
+fn cable(c: &mut Cursor, net: &mut Net) -> Result<(), Fault>
+    ensures value { told_as (λ _. wires_in net.new) result (rest c.new)
+        ≡ spec.cable net.old.switches net.old.ports (wires_in net.old) (rest c.old) }
+    ensures alike { Alike net.new net.old }
 {
-    let i = below(c, switches)?;
-    let p = free_port(c, board, ports, i)?;
-    board.put(i, p, Wire::Outside);
-    let j = below(c, switches)?;
-    let q = free_port(c, board, ports, j)?;
-    board.put(i, p, Wire::To(j, q));
-    board.put(j, q, Wire::To(i, p));
+    let i = c.below(net.switches())?;
+    let p = free_port(c, net, i)?;
+    net.open(i, p);
+    let j = c.below(net.switches())?;
+    let q = free_port(c, net, j)?;
+    net.link(i, p, j, q);
     Ok(())
 }
 
-fn outside(c: &mut Cursor, board: &mut Board, switches: u8, ports: u8) -> Result<(), Fault>
-    requires few { switches ≤ 24 }
-    requires narrow { ports ≤ 32 }
-    ensures value { told_as (λ _. wires_of board.new) result (rest c.new)
-        ≡ spec.outside switches ports (wires_of board.old) (rest c.old) }
+fn outside(c: &mut Cursor, net: &mut Net) -> Result<(), Fault>
+    ensures value { told_as (λ _. wires_in net.new) result (rest c.new)
+        ≡ spec.outside net.old.switches net.old.ports (wires_in net.old) (rest c.old) }
+    ensures alike { Alike net.new net.old }
 {
-    let i = below(c, switches)?;
-    let p = open_port(c, board, ports, i)?;
-    board.put(i, p, Wire::Outside);
+    let i = c.below(net.switches())?;
+    let p = open_port(c, net, i)?;
+    net.open(i, p);
     Ok(())
 }
 
-fn cables(
+// All items of one kind, each by a call of its reader.
+fn times<F: Fn(&mut Cursor, &mut Net) -> Result<(), Fault>>(
     c: &mut Cursor,
-    board: &mut Board,
-    switches: u8,
-    ports: u8,
+    net: &mut Net,
     count: u16,
+    read: F,
 ) -> Result<(), Fault>
-    requires few { switches ≤ 24 }
-    requires narrow { ports ≤ 32 }
-    ensures value { told_as (λ _. wires_of board.new) result (rest c.new)
-        ≡ spec.times count (spec.cable switches ports) (wires_of board.old) (rest c.old) }
+    requires callable { F.IsAlwaysCallable read }
+    ensures value { (step : _) → Reads net.old.switches net.old.ports (F.post read) step →
+        (told_as (λ _. wires_in net.new) result (rest c.new) ≡ spec.times count step (wires_in net.old) (rest c.old)) × Alike net.new net.old }
 {
-    for _i in 0..count {
-        match cable(c, board, switches, ports) {
-            Ok(()) => {}
-            Err(fault) => return Err(fault),
-        }
-    }
-    Ok(())
-}
-
-fn outsides(
-    c: &mut Cursor,
-    board: &mut Board,
-    switches: u8,
-    ports: u8,
-    count: u16,
-) -> Result<(), Fault>
-    requires few { switches ≤ 24 }
-    requires narrow { ports ≤ 32 }
-    ensures value { told_as (λ _. wires_of board.new) result (rest c.new)
-        ≡ spec.times count (spec.outside switches ports) (wires_of board.old) (rest c.old) }
-{
-    for _i in 0..count {
-        match outside(c, board, switches, ports) {
-            Ok(()) => {}
-            Err(fault) => return Err(fault),
-        }
+    for _ in 0..count {
+        read(c, net)?;
     }
     Ok(())
 }
 
 // What hangs on the ports: all cables, and then all outside ports.
-fn wires(c: &mut Cursor, switches: u8, ports: u8) -> Result<Board, Fault>
+fn wires(c: &mut Cursor, switches: u8, ports: u8) -> Result<Net, Fault>
     requires few { switches ≤ 24 }
     requires narrow { ports ≤ 32 }
-    ensures value { told_as wires_of result (rest c.new) ≡ spec.wires switches ports (rest c.old) }
+    ensures value { told_as wires_in result (rest c.new) ≡ spec.wires switches ports (rest c.old) }
+    ensures net { IfOk result (λ net. (net.switches ≡ switches) × (net.ports ≡ ports)) }
 {
-    let mut board = Board::new();
+    let mut net = Net::new(switches, ports);
     let count = c.word()?;
-    cables(c, &mut board, switches, ports, count)?;
+    times(c, &mut net, count, cable)?;
     let count = c.word()?;
-    outsides(c, &mut board, switches, ports, count)?;
-    Ok(board)
+    times(c, &mut net, count, outside)?;
+    Ok(net)
 }
 
 fn layout(c: &mut Cursor) -> Result<Cables, Fault>
     ensures value { told_as layout_of result (rest c.new) ≡ spec.layout (rest c.old) }
 {
-    let switches = between(c, 1, 24)?;
-    let ports = between(c, 1, 32)?;
-    let hops = between(c, 0, 16)?;
-    let board = wires(c, switches, ports)?;
-    Ok(Cables {
-        switches,
-        ports,
-        hops,
-        board,
-    })
+    let switches = c.between(1, 24)?;
+    let ports = c.between(1, 32)?;
+    let hops = c.between(0, 16)?;
+    let net = wires(c, switches, ports)?;
+    Ok(Cables { net, hops })
 }
 
 // A list of cables with nothing behind it.
@@ -139,8 +105,6 @@ pub fn read(bytes: &[u8]) -> Result<Cables, Fault>
 {
     let mut c = Cursor::new(bytes);
     let cables = layout(&mut c)?;
-    if !c.is_done() {
-        return Err(Fault::Form);
-    }
+    c.end()?;
     Ok(cables)
 }

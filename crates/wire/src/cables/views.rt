@@ -11,14 +11,14 @@ impl Cables {
         ensures value { result ≡ (layout_of self.now).switches }
         ensures bounds { (1 ≤ result) × (result ≤ 24) }
     {
-        self.switches
+        self.net.switches()
     }
 
     pub fn ports(&self) -> u8
         ensures value { result ≡ (layout_of self.now).ports }
         ensures bounds { (1 ≤ result) × (result ≤ 32) }
     {
-        self.ports
+        self.net.ports()
     }
 
     pub fn hops(&self) -> u8
@@ -33,6 +33,6 @@ impl Cables {
         ensures value { result ≡ (layout_of self.now).wire switch port }
         ensures sound { Sound (layout_of self.now).switches (layout_of self.now).ports (layout_of self.now).wire }
     {
-        self.board.at(switch, port)
+        self.net.at(switch, port)
     }
 }

@@ -1,11 +1,10 @@
 // Reading a frame.
 ghost use Rattle.std.specs.Prelude.{◌≡◌, [], ◌∷◌};
 ghost use Rattle.octets.specs.Readers.{told, told_as, rest};
-ghost use Rattle.wire.specs.Numbers.{alone};
+ghost use Rattle.octets.specs.Parse.{alone};
 ghost use Rattle.wire.specs.Frames as spec;
 
 use super::Frame;
-use crate::numbers::{below, kind};
 use octets::{Cursor, Fault};
 use packet::Packet;
 
@@ -13,16 +12,11 @@ use packet::Packet;
 fn packet(c: &mut Cursor, first: u16) -> Result<Packet, Fault>
     ensures value { told_as (λ p. p.fields) result (rest c.new) ≡ spec.fields 7 (first ∷ []) (rest c.old) }
 {
-    let b = c.word()?;
-    let d = c.word()?;
-    let e = c.word()?;
-    let f = c.word()?;
-    let g = c.word()?;
-    let i = c.word()?;
-    let j = c.word()?;
-    Ok(Packet {
-        fields: [first, b, d, e, f, g, i, j],
-    })
+    let mut fields = [first; 8];
+    for field in &mut fields[1..] {
+        *field = c.word()?;
+    }
+    Ok(Packet { fields })
 }
 
 // The first field of a packet that comes in at a port.
@@ -30,7 +24,7 @@ fn entry(c: &mut Cursor, port: u8) -> Result<u16, Fault>
     ensures value { told result (rest c.new) ≡ spec.entry port (rest c.old) }
 {
     let x = c.word()?;
-    if x != port as u16 {
+    if x != u16::from(port) {
         return Err(Fault::Range);
     }
     Ok(x)
@@ -39,9 +33,9 @@ fn entry(c: &mut Cursor, port: u8) -> Result<u16, Fault>
 fn cabled(c: &mut Cursor, h: u8, port: u8) -> Result<Frame, Fault>
     ensures value { told result (rest c.new) ≡ spec.cabled h port (rest c.old) }
 {
-    let _kind = kind(c, 64)?;
+    let _kind = c.kind(64)?;
     let version = c.word()?;
-    let hops = below(c, h)?;
+    let hops = c.below(h)?;
     let first = entry(c, port)?;
     let packet = packet(c, first)?;
     Ok(Frame {
@@ -54,7 +48,7 @@ fn cabled(c: &mut Cursor, h: u8, port: u8) -> Result<Frame, Fault>
 fn outside(c: &mut Cursor) -> Result<Packet, Fault>
     ensures value { told result (rest c.new) ≡ spec.outside (rest c.old) }
 {
-    let _kind = kind(c, 64)?;
+    let _kind = c.kind(64)?;
     let _version = c.word()?;
     let _hops = c.byte()?;
     let first = c.word()?;
@@ -67,9 +61,7 @@ pub fn read_cable(bytes: &[u8], h: u8, port: u8) -> Result<Frame, Fault>
 {
     let mut c = Cursor::new(bytes);
     let frame = cabled(&mut c, h, port)?;
-    if !c.is_done() {
-        return Err(Fault::Form);
-    }
+    c.end()?;
     Ok(frame)
 }
 
@@ -79,8 +71,6 @@ pub fn read_outside(bytes: &[u8]) -> Result<Packet, Fault>
 {
     let mut c = Cursor::new(bytes);
     let packet = outside(&mut c)?;
-    if !c.is_done() {
-        return Err(Fault::Form);
-    }
+    c.end()?;
     Ok(packet)
 }

@@ -1,31 +1,29 @@
 // Reading an order or an answer.
 ghost use Rattle.std.specs.Prelude.{◌≡◌, []};
 ghost use Rattle.octets.specs.Readers.{told, rest};
-ghost use Rattle.wire.specs.Numbers.{alone};
+ghost use Rattle.octets.specs.Parse.{alone};
 ghost use Rattle.wire.specs.Orders as spec;
 
-use super::{Letter, Message, Order};
-use crate::numbers::{below, between};
+use super::{Kind, Letter, Message, Order};
 use octets::{Cursor, Fault};
 
 // 1 to h for a round, and 0 otherwise.
-fn round_of(c: &mut Cursor, h: u8, kind: u8) -> Result<u8, Fault>
-    ensures value { told result (rest c.new) ≡ spec.round_for h kind (rest c.old) }
+fn round_of(c: &mut Cursor, h: u8, kind: Kind) -> Result<u8, Fault>
+    ensures value { told result (rest c.new) ≡ spec.round_for h (spec.number kind) (rest c.old) }
 {
-    if kind == 2 {
-        between(c, 1, h)
-    } else {
-        between(c, 0, 0)
+    match kind {
+        Kind::Round => c.between(1, h),
+        Kind::Install | Kind::Stamp | Kind::Remove => c.between(0, 0),
     }
 }
 
 // What follows the kind: the order and its switch.
-fn order(c: &mut Cursor, n: u8, h: u8, kind: u8) -> Result<(Order, u8), Fault>
-    ensures value { told result (rest c.new) ≡ spec.order n h kind (rest c.old) }
+fn order(c: &mut Cursor, n: u8, h: u8, kind: Kind) -> Result<(Order, u8), Fault>
+    ensures value { told result (rest c.new) ≡ spec.order n h (spec.number kind) (rest c.old) }
 {
     let version = c.word()?;
     let round = round_of(c, h, kind)?;
-    let switch = below(c, n)?;
+    let switch = c.below(n)?;
     Ok((Order::of_kind(kind, version, round), switch))
 }
 
@@ -36,14 +34,14 @@ pub fn read(c: &mut Cursor, n: u8, h: u8) -> Result<Letter, Fault>
     let kind = c.byte()?;
     match kind {
         16..=19 => {
-            let (o, switch) = order(c, n, h, kind - 16)?;
+            let (o, switch) = order(c, n, h, Kind::try_from(kind - 16)?)?;
             Ok(Letter {
                 message: Message::Ask(o),
                 switch,
             })
         }
         48..=51 => {
-            let (o, switch) = order(c, n, h, kind - 48)?;
+            let (o, switch) = order(c, n, h, Kind::try_from(kind - 48)?)?;
             Ok(Letter {
                 message: Message::Answer(o),
                 switch,
@@ -59,8 +57,6 @@ pub fn read_alone(bytes: &[u8], n: u8, h: u8) -> Result<Letter, Fault>
 {
     let mut c = Cursor::new(bytes);
     let letter = read(&mut c, n, h)?;
-    if !c.is_done() {
-        return Err(Fault::Form);
-    }
+    c.end()?;
     Ok(letter)
 }

@@ -9,8 +9,8 @@ fn kind(m: Message) -> u8
     ensures value { result ≡ spec.kind_byte m }
 {
     match m {
-        Message::Ask(o) => 16 + o.kind(),
-        Message::Answer(o) => 48 + o.kind(),
+        Message::Ask(o) => 16 + u8::from(o.kind()),
+        Message::Answer(o) => 48 + u8::from(o.kind()),
     }
 }
 
@@ -21,12 +21,6 @@ pub fn write(out: &mut Vec<u8>, letter: Letter) -> Result<(), AllocError>
         (λ _. out.new.items ≡ out.old.items) }
 {
     let (Message::Ask(o) | Message::Answer(o)) = letter.message;
-    let v = o.version();
-    out.extend_from_slice(&[
-        kind(letter.message),
-        (v / 256) as u8,
-        (v % 256) as u8,
-        o.round(),
-        letter.switch,
-    ])
+    let [high, low] = o.version().to_be_bytes();
+    out.extend_from_slice(&[kind(letter.message), high, low, o.round(), letter.switch])
 }

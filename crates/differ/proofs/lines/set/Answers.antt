@@ -1,27 +1,18 @@
--- A set.
-use Rattle.std.proofs.Common.{string_bytes, arith}
-use Rattle.table.specs.Listed.{fields_of}
-use Rattle.trees.proofs.Alikes.{made_so}
-use Rattle.compare.proofs.Listing.{none_left, first_and_rest}
-use Rattle.differ.proofs.Telling.{set_none, set_some}
+-- One packet more.
+use Rattle.std.proofs.Common.{[], ◌++◌, codes, string_bytes, get_or, take, ap, sym, ◌∙◌}
+use Rattle.std.specs.List.{flat_map}
+use Rattle.std.proofs.lemmas.List.{flat_map_more, map_more}
+use Rattle.packet.specs.Packet.{Packet}
+use Rattle.packet.specs.Listed.{fields_of}
+use Rattle.differ.specs.Lines.{packet_text}
 use Rattle.differ.proofs.lines.set.Goals as goal
 
-pub returns-then-packets-eq0 : goal.returns-then-packets-eq0
-returns-then-packets-eq0 c =
-    record {
-      made =
-          made_so c.say.result
-          (λ _ x. set_none (string_bytes c.args.text.now) _ (fields_of c.args.packets.now) x (none_left c.args.packets.now (omega arith)))
-          c.say.ensures.made;
-    }
-
-pub returns : goal.returns
-returns c =
-    record {
-      made =
-          made_so c.more.result
-          (λ _ x.
-          set_some (string_bytes c.args.text.now) _ _ _ _ (fields_of c.args.packets.now) c.in_ok-packet.ensures.made x
-          (first_and_rest c.args.packets.now _ (omega arith)))
-          c.more.ensures.made;
-    }
+pub loop-next-preserved : goal.loop-next-preserved
+loop-next-preserved c =
+    let ps = c.in-Some.rest.now in
+    let i = c.loop-next.next-index in
+    let piece = λ (p : Packet). codes " | " ++ packet_text p in
+    let before = string_bytes c.write.new.self in
+    let p = get_or ps i (record { fields = [] }) in
+    c.in_ok-write-2.ensures.bytes ∙ ap (λ l. l ++ piece p.fields) c.loop-next.invariant ∙ flat_map_more piece before (fields_of (take i ps)) p.fields
+    ∙ ap (λ qs. before ++ flat_map piece qs) (sym (map_more (λ q. q.fields) ps i (record { fields = [] }) c.loop-next-test.true))

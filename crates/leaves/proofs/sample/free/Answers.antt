@@ -1,24 +1,14 @@
-use Rattle.std.proofs.Common.{sym, ◌∙◌, arith}
+use Rattle.std.proofs.Common.{◌≡◌, true, false, ◌+◌, length, ◌∙◌, rules, tests, arith}
+use Rattle.std.proofs.lemmas.Iterator.{first_from_Range}
+use Rattle.prescribed.specs.Table.{names}
 use Rattle.leaves.specs.Under.{marked, name_of}
-use Rattle.leaves.proofs.Freed.{free_here, free_room, free_next, names_few}
+use Rattle.leaves.proofs.Freed.{free_found, names_few}
 use Rattle.leaves.proofs.sample.free.Goals as goal
-
-pub overflow_add-x : goal.overflow_add-x
-overflow_add-x c = omega (arith, c.loop-x.invariant.0, names_few c.args.row.now c.args.nodes.now)
-
-pub loop-x-smaller : goal.loop-x-smaller
-loop-x-smaller c =
-    let ws = marked name_of c.args.row.now c.args.nodes.now in
-    omega (arith, free_room c.args.f ws c.loop-x.x c.loop-x.invariant.0 c.loop-x.invariant.1 (sym c.loop-x-test.ensures.value))
-
-pub loop-x-preserved : goal.loop-x-preserved
-loop-x-preserved c =
-    let ws = marked name_of c.args.row.now c.args.nodes.now in
-    let h = sym c.loop-x-test.ensures.value in
-    let lt = free_room c.args.f ws c.loop-x.x c.loop-x.invariant.0 c.loop-x.invariant.1 h in
-    (omega (arith, lt), free_next c.args.f ws c.loop-x.x c.loop-x.invariant.0 c.loop-x.invariant.1 h)
 
 pub returns : goal.returns
 returns c =
-    let ws = marked name_of c.args.row.now c.args.nodes.now in
-    record { value = sym (free_here c.args.f ws c.loop-x.x _ (sym c.loop-x-test.ensures.value)) ∙ c.loop-x.invariant.1 }
+    let ns = c.args.nodes.now in
+    let ws = marked name_of c.args.row.now ns in
+    let first = first_from_Range _ _ _ c.find.result (λ x. names c.args.f x ws ≡ false) (λ x. names c.args.f x ws ≡ true) c.find.ensures.ran
+    (λ x q k. search (rules, tests)) (λ x q k. (search (rules, tests), search (rules, tests))) in
+    record { value = c.unwrap_or.ensures ∙ free_found c.args.f ws (length ns + 1) c.find.result (omega (arith, names_few c.args.row.now ns)) first }

@@ -1,26 +1,16 @@
-use Rattle.std.proofs.Common.{sym, ◌∙◌}
-use Rattle.leaves.proofs.Freed.{name_found, name_unmarked, name_passed, names_ended}
+use Rattle.std.proofs.Common.{◌&&◌, sym, ◌∙◌, rules, tests}
+use Rattle.std.proofs.lemmas.Iterator.{YieldsList-from_slice, YieldsList-from_zip}
+use Rattle.std.proofs.lemmas.Iterator.Search.{any_from_yields_List}
+use Rattle.prescribed.specs.Table.{names}
+use Rattle.leaves.specs.Under.{name_of}
+use Rattle.leaves.proofs.Freed.{names_any}
 use Rattle.leaves.proofs.sample.names.Goals as goal
-use Rattle.leaves.proofs.sample.names.Goals.{else-row-k-via-then-row-k+else-has, else-row-k-via-else-row-k}
-
-pub returns-then-has : goal.returns-then-has
-returns-then-has c =
-    record {
-      value =
-          sym (name_found c.args.f c.args.x c.args.row.now c.args.nodes.now c.loop-k.k c.loop-k-test.true c.requires.room c.if-row-k.true (sym c.if-has.ensures.value))
-          ∙ c.loop-k.invariant;
-    }
-
-pub loop-k-preserved : goal.loop-k-preserved
-loop-k-preserved c =
-    elim c.else-row-k.branch [
-      | else-row-k-via-then-row-k+else-has w ↦
-          sym (name_passed c.args.f c.args.x c.args.row.now c.args.nodes.now c.loop-k.k c.loop-k-test.true c.requires.room w.if-row-k.true (sym w.if-has.ensures.value))
-          ∙ c.loop-k.invariant
-      | else-row-k-via-else-row-k w ↦
-          sym (name_unmarked c.args.f c.args.x c.args.row.now c.args.nodes.now c.loop-k.k c.loop-k-test.true c.requires.room w.if-row-k.false)
-          ∙ c.loop-k.invariant
-    ]
 
 pub returns : goal.returns
-returns c = record { value = sym (names_ended c.args.f c.args.x c.args.row.now c.args.nodes.now c.loop-k.k c.loop-k-test.false) ∙ c.loop-k.invariant }
+returns c =
+    let both = YieldsList-from_zip (YieldsList-from_slice c.args.nodes.now cc) (YieldsList-from_slice c.args.row.now cc) in
+    record {
+      value =
+          any_from_yields_List (λ q. q.1 && names c.args.f c.args.x (name_of q.0)) c.any.new.self _ c.any.result c.any.ensures.ran both (λ x b q k. search (rules, tests))
+          ∙ sym (names_any c.args.f c.args.x c.args.row.now c.args.nodes.now);
+    }

@@ -1,29 +1,19 @@
-use Rattle.std.proofs.Common.{⊎_elim, arith}
+use Rattle.std.proofs.Common.{⊎_elim, rules}
 use Rattle.maker.proofs.Ends.{end_none, end_first, end_dropped, end_kept}
 use Rattle.maker.proofs.end.+end.Goals as goal
 
-pub returns-in_default : goal.returns-in_default
-returns-in_default t c =
-    record { value = λ table is. end_none table c.args.words.now is c.in_default.ensures.value; bound = omega arith; rules = omega arith }
+pub returns-in_default-clause-value : goal.returns-in_default-clause-value
+returns-in_default-clause-value t c = λ table is. let h = end_none table c.args.words.now is c.in_default.ensures.value in search rules
 
-pub returns-then-rules-eq0 : goal.returns-then-rules-eq0
-returns-then-rules-eq0 t c =
-    record {
-      value = λ table is.
-          let f = end_first table c.args.words.now c.in-Some.rest.now c.in-Some.outs is c.in-Some.ensures.value in
-          end_dropped table c.in-Some.outs c.end-size.result.1 c.end-size.result.0 c.in-Some.rest.now f c.if-outs-eq0.true c.if-rules-eq0.true
-          (c.end-size.ensures.value f.others f.behind);
-      bound = omega arith;
-      rules = omega arith;
-    }
+pub returns-then-behind-eq0-clause-value : goal.returns-then-behind-eq0-clause-value
+returns-then-behind-eq0-clause-value t c = λ table is.
+    let f = end_first table c.args.words.now c.in-Some.rest.now c.in-Some.outs is c.in-Some.ensures.value in
+    let h = end_dropped table c.in-Some.outs c.end-behind.result.rules c.end-behind.result.words c.in-Some.rest.now f c.if-outs-eq0.true c.if-behind-eq0.true
+    (c.end-behind.ensures.value f.others f.behind) in
+    search rules
 
-pub returns : goal.returns
-returns t c =
-    record {
-      value = λ table is.
-          let f = end_first table c.args.words.now c.in-Some.rest.now c.in-Some.outs is c.in-Some.ensures.value in
-          end_kept table c.args.words.now c.in-Some.rest.now c.in-Some.outs c.end-size.result.1 c.end-size.result.0 f is
-          (λ ho hr. ⊎_elim (λ p. p.1 hr) (λ ne. ne ho) c.else-outs-eq0.either) (c.end-size.ensures.value f.others f.behind);
-      bound = omega (arith, c.in-Some.ensures.shorter, c.end-size.ensures.bound);
-      rules = omega (arith, c.in-Some.ensures.shorter, c.end-size.ensures.rules);
-    }
+pub returns-clause-value : goal.returns-clause-value
+returns-clause-value t c = λ table is.
+    let f = end_first table c.args.words.now c.in-Some.rest.now c.in-Some.outs is c.in-Some.ensures.value in
+    end_kept table c.args.words.now c.in-Some.rest.now c.in-Some.outs c.end-behind.result.rules c.end-behind.result.words f is
+    (λ ho hr. ⊎_elim (λ p. p.1 hr) (λ ne. ne ho) c.else-outs-eq0.either) (c.end-behind.ensures.value f.others f.behind)

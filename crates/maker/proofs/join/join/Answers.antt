@@ -1,11 +1,8 @@
-use Rattle.std.proofs.Common.{◌≡◌, ℕ, ◌+◌, ◌-◌, true, false, List, take, drop, sym, ap, arith}
+use Rattle.std.proofs.Common.{◌≡◌, ℕ, ◌+◌, ◌-◌, true, false, List, take, drop, refl, sym, ap, arith}
 use Rattle.maker.proofs.Joining.{same_tables, joined_same, joined_both, joined_over}
 use Rattle.maker.proofs.join.join.Goals as goal
 
--- the parts of the slice that are compared
-front : (y : ℕ) (ws : List ℕ) → take (y - 0) ws ≡ take y ws
-front y ws = let e : y - 0 ≡ y = omega arith in ap (λ k. take k ws) e
-
+-- the part of the slice that is compared
 back : (y n : ℕ) (ws : List ℕ) → take ((y + n) - y) (drop y ws) ≡ take n (drop y ws)
 back y n ws = let e : (y + n) - y ≡ n = omega arith in ap (λ k. take k (drop y ws)) e
 
@@ -13,22 +10,22 @@ pub returns-then-same_without : goal.returns-then-same_without
 returns-then-same_without c = record {
   joined = λ s t first second more rest gs gt.
       let ws = c.args.out.now in
-      let same = sym (same_tables c.args.f c.args.y c.args.n ws s t first second true _ _ c.if-same_without.ensures.value (front c.args.y ws) (back c.args.y c.args.n ws)) in
-      (omega arith, joined_same c.args.f c.args.y c.args.n ws s t first second same c.requires.within _ _ c.copy_within.ensures.after rest c.requires.fewer gt);
+      let same = sym (same_tables c.args.f c.args.y.words c.args.n.words ws s t first second true _ _ c.if-same_without.ensures.value refl (back c.args.y.words c.args.n.words ws)) in
+      (omega arith, joined_same c.args.f c.args.y.words c.args.n.words ws s t first second same c.requires.within _ _ c.copy_within.ensures.after rest c.requires.fewer gt);
 }
 
-pub returns-then-more-rest-gt-MOST : goal.returns-then-more-rest-gt-MOST
-returns-then-more-rest-gt-MOST c = record {
+pub returns-then-both-gt-MOST : goal.returns-then-both-gt-MOST
+returns-then-both-gt-MOST c = record {
   joined = λ s t first second more rest gs gt.
       let ws = c.args.out.now in
-      let other = sym (same_tables c.args.f c.args.y c.args.n ws s t first second false _ _ c.if-same_without.ensures.value (front c.args.y ws) (back c.args.y c.args.n ws)) in
-      joined_over c.args.f c.args.y c.args.n ws s t first second other _ _ more rest c.if-more-rest-gt-MOST.true;
+      let other = sym (same_tables c.args.f c.args.y.words c.args.n.words ws s t first second false _ _ c.if-same_without.ensures.value refl (back c.args.y.words c.args.n.words ws)) in
+      joined_over c.args.f c.args.y.words c.args.n.words ws s t first second other _ _ more rest c.if-both-gt-MOST.true;
 }
 
 pub returns : goal.returns
 returns c = record {
   joined = λ s t first second more rest gs gt.
       let ws = c.args.out.now in
-      let other = sym (same_tables c.args.f c.args.y c.args.n ws s t first second false _ _ c.if-same_without.ensures.value (front c.args.y ws) (back c.args.y c.args.n ws)) in
-      (omega arith, joined_both c.args.f c.args.y c.args.n ws s t first second other _ _ more rest c.if-more-rest-gt-MOST.false gs gt);
+      let other = sym (same_tables c.args.f c.args.y.words c.args.n.words ws s t first second false _ _ c.if-same_without.ensures.value refl (back c.args.y.words c.args.n.words ws)) in
+      (omega arith, joined_both c.args.f c.args.y.words c.args.n.words ws s t first second other _ _ more rest c.if-both-gt-MOST.false gs gt);
 }

@@ -1,16 +1,15 @@
 -- One digit more, a byte that is no digit, and the end.
-use Rattle.std.proofs.Common.{◌≡◌, true, false, leb, length, get_or, sym, ◌∙◌, arith}
-use Rattle.std.proofs.lemmas.Bool.{and_from, le-leb, eqb-false}
-use Rattle.std.proofs.lemmas.Bool.Decides.{nat_tests}
+use Rattle.std.proofs.Common.{◌≡◌, true, false, length, get_or, rules, sym, ◌∙◌, arith}
+use Rattle.std.proofs.lemmas.Bool.{eqb-false}
 use Rattle.notation.specs.Numbers.{is_digit}
 use Rattle.notation.proofs.Numerals.{digit_more, digit_stop, digit_end, number_some}
 use Rattle.notation.proofs.number.decimal.Goals as goal
 
-pub returns-then-b-lt48 : goal.returns-then-b-lt48
-returns-then-b-lt48 c =
+pub returns-then-not-is_ascii_digit : goal.returns-then-not-is_ascii_digit
+returns-then-not-is_ascii_digit c =
     let word = c.args.word.now in
     let i = c.loop-b.b-index in
-    let none : is_digit (get_or word i 0) ≡ false = grind (arith, nat_tests, c.then-b-lt48.either) in
+    let none : is_digit (get_or word i 0) ≡ false = search rules in
     record {
       value = digit_stop c.loop-b.n word i (omega arith) none ∙ c.loop-b.invariant.0 ∙ number_some word (omega (arith, eqb-false (length word) 0 (sym c.if-is_empty.ensures)));
     }
@@ -20,7 +19,7 @@ loop-b-preserved c =
     let word = c.args.word.now in
     let i = c.loop-b.b-index in
     let b = get_or word i 0 in
-    let digit : is_digit b ≡ true = and_from (leb 48 b) (leb b 57) (le-leb 48 b (omega arith)) (le-leb b 57 (omega arith)) in
+    let digit : is_digit b ≡ true = search rules in
     (digit_more c.loop-b.n c.saturating_add-n.result word i (omega arith) digit (omega arith) ∙ c.loop-b.invariant.0, omega arith)
 
 pub returns : goal.returns

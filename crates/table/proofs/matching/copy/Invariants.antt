@@ -1,9 +1,11 @@
-use Rattle.std.proofs.Common.{◌≡◌, ◌-◌, true}
+-- The settings that are left make of the packet so far what all of them make of the packet.
+use Rattle.std.proofs.Common.{◌≡◌}
 use Rattle.packet.specs.Table.{set_all}
-use Rattle.table.specs.Words.{setting_size, word, settings_from, out_at, row_in}
+use Rattle.table.specs.Views.{settings_in}
 use Rattle.table.proofs.matching.copy.Given as goal
 
-abbrev pub invariant-loop-i : goal.invariant-loop-i
-invariant-loop-i l =
-    (row_in l.words setting_size (word l.words l.at - l._i) l.place ≡ true)
-    × (set_all (settings_from l.words (word l.words l.at - l._i) l.place) l.q.fields ≡ set_all (out_at l.words l.at) l.initial.q.fields)
+abbrev pub invariant-loop-setting : goal.invariant-loop-setting
+invariant-loop-setting l =
+    (goal.iterator-loop-setting).can_next l.setting-iterator
+    × (goal.iterator-loop-setting).is_finite l.setting-iterator
+    × (set_all (settings_in l.setting-iterator) l.q.fields ≡ set_all (settings_in l.fn.out) l.fn.p.fields)

@@ -1,27 +1,38 @@
-use Rattle.std.proofs.Common.{◌++◌, vec_items, ap, ◌∙◌, arith}
-use Rattle.std.proofs.lemmas.List.{append_assoc}
+-- The wants, and the outs behind them.
+use Rattle.std.proofs.Common.{◌++◌, length, ap, ◌∙◌, arith}
+use Rattle.std.proofs.lemmas.List.{append_assoc, length-append}
 use Rattle.table.specs.Bytes.{wants_bytes, outs_bytes}
-use Rattle.table.specs.Words.{wants_at, wants_end, outs_at, outs_end, outs_in}
-use Rattle.table.proofs.Steps.{rule_parts}
+use Rattle.table.specs.Views.{wants_in, outs_in}
+use Rattle.table.specs.Words.{pairs_of}
+use Rattle.table.proofs.Alike.{wants_bytes_of}
 use Rattle.table.proofs.writes.rule.Goals as goal
 
-pub wants-requires : goal.wants-requires
-wants-requires c = record { there = (rule_parts c.args.words.now c.args.at c.requires.there).0; room = c.requires.room }
+pub pairs-requires : goal.pairs-requires
+pairs-requires c =
+    let r = c.args.rule in
+    record { room = omega (arith, ap length (wants_bytes_of (pairs_of r.wants.words.now)), length-append (wants_bytes (wants_in r.wants)) (outs_bytes (outs_in r.outs)), c.requires.room) }
 
 pub outs-requires : goal.outs-requires
 outs-requires c =
-    let ws = c.args.words.now in
-    let is = c.wants_end.ensures.value in
-    record { there = ap (outs_in ws) is ∙ (rule_parts ws c.args.at c.requires.there).1; room = omega (arith, is, c.wants.ensures.room) }
-
-pub returns : goal.returns
-returns c =
-    let ws = c.args.words.now in
-    let k = wants_end ws c.args.at in
-    let is = c.wants_end.ensures.value in
+    let r = c.args.rule in
     record {
-      items =
-          c.outs.ensures.items ∙ (λ i. c.wants.ensures.items i ++ outs_bytes (outs_at ws (is i)))
-          ∙ append_assoc (vec_items c.args.out.now) (wants_bytes (wants_at ws c.args.at)) (outs_bytes (outs_at ws k));
-      room = omega (arith, c.outs.ensures.room, ap (outs_end ws) is);
+      room =
+          omega (
+            arith,
+            c.args.out.now.ok.0,
+            c.pairs.new.out.ok.0,
+            ap length (c.pairs.ensures.items ∙ ap (λ b. c.args.out.now.items ++ b) (wants_bytes_of (pairs_of r.wants.words.now))),
+            length-append c.args.out.now.items (wants_bytes (wants_in r.wants)),
+            length-append (wants_bytes (wants_in r.wants)) (outs_bytes (outs_in r.outs)),
+            c.requires.room,
+            c.pairs.ensures.capacity,
+          );
     }
+
+pub returns-clause-items : goal.returns-clause-items
+returns-clause-items c =
+    let r = c.args.rule in
+    let wants = wants_bytes (wants_in r.wants) in
+    let outs = outs_bytes (outs_in r.outs) in
+    let same = ap (λ b. c.args.out.now.items ++ b) (wants_bytes_of (pairs_of r.wants.words.now)) in
+    c.outs.ensures.items ∙ ap (λ l. l ++ outs) (c.pairs.ensures.items ∙ same) ∙ append_assoc c.args.out.now.items wants outs

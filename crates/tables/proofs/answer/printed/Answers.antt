@@ -6,5 +6,5 @@ use Rattle.tables.proofs.answer.printed.Goals as goal
 
 pub slice_bounds-new-end-2 : goal.slice_bounds-new-end-2
 slice_bounds-new-end-2 c =
-    let p = c.in-Ok.ensures.made in
-    sym (length-take-le c.in-Ok.size c.make.new.out (omega (arith, p.2, ap length p.3, length-append (encode (table_of (policy_of c.args.maker.now))) (replicate (length c.args.words.now - c.in-Ok.size) 0))))
+    let p = c.in_ok-size.ensures.made in
+    sym (length-take-le c.in_ok-size.size c.make.new.out (omega (arith, p.2, ap length p.3, length-append (encode (table_of (policy_of c.args.maker.now))) (replicate (length c.args.words.now - c.in_ok-size.size) 0))))

@@ -3,7 +3,8 @@ use Rattle.std.proofs.lemmas.List.{take_all}
 use Rattle.text.specs.declared.node.Node.TheVariants.{Always}
 use Rattle.text.specs.Texts.{nodes_of}
 use Rattle.prescribed.specs.Order.{insert, rising, less_want}
-use Rattle.leaves.specs.Pairs.{want_of, wants_of}
+use Rattle.packet.specs.Pairs.{want_of}
+use Rattle.leaves.specs.Pairs.{wants_of}
 use Rattle.leaves.proofs.Gathered.{pair_more, pair_unmarked, pair_other, pairs_all, pairs_low}
 use Rattle.leaves.proofs.Marking.{marked_none}
 use Rattle.leaves.specs.Under.{test_of}
@@ -28,7 +29,7 @@ loop-k-preserved c =
       | in-Is+then-row-k w ↦ (
         omega (arith, ap vec_len w.items-is, w.insert.ensures.len, inv.0),
         omega (arith, ap vec_capacity w.items-is, w.insert.ensures.capacity, inv.1),
-        ap (λ v. wants_of (vec_items v)) w.items-is ∙ w.insert.ensures.items
+        ap (λ v. wants_of (vec_items v)) w.items-is ∙ w.insert.ensures.items _ inv.2
             ∙ ap (insert less_want (want_of (record { field = w.in-Is.field; value = w.in-Is.value }))) inv.2
             ∙ sym (pair_more row ns k lt w.in-Is.field w.in-Is.value w.if-row-k.true (same ∙ w.in-Is.is)),
       )

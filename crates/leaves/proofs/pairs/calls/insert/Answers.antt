@@ -1,42 +1,20 @@
-use Rattle.std.proofs.Common.{vec_items, sym, ap, ◌∙◌, subst, arith}
+use Rattle.std.proofs.Common.{vec_items, ap, ◌∙◌}
 use Rattle.std.proofs.lemmas.Bool.{cond-true}
+use Rattle.packet.specs.Pairs.{want_of}
 use Rattle.prescribed.specs.Order.{less_want}
 use Rattle.prescribed.proofs.Orders.{want_ordered}
-use Rattle.leaves.specs.Pairs.{want_of, wants_of}
-use Rattle.leaves.specs.Place.{Place}
-use Rattle.leaves.proofs.Placed.{put_there, put_before, put_last}
+use Rattle.leaves.specs.Pairs.{wants_of}
+use Rattle.leaves.proofs.Deciding.{pair_cmp, pair_total, pair_less}
+use Rattle.leaves.proofs.Placed.{found, not_found}
 use Rattle.leaves.proofs.pairs.calls.insert.Goals as goal
-use Rattle.leaves.proofs.pairs.calls.insert.Goals.{then-i-len+else-not-comes_before, else-i-len}
 
-pub returns-then-not-comes_before : goal.returns-then-not-comes_before
-returns-then-not-comes_before c =
-    let p = c.args.p in
-    let i = c.place-i.result in
-    let place = subst (λ l. Place less_want (want_of p) (wants_of l) i) c.as_slice.ensures.value c.place-i.ensures.place in
-    record {
-      items =
-          put_there less_want want_ordered want_of (vec_items c.args.items.now) p i place _ (omega arith)
-          (ap (λ q. less_want (want_of p) (want_of q)) (sym c.index-q.ensures) ∙ sym c.if-not-comes_before.ensures.value);
-      len = omega arith;
-      capacity = omega arith;
-    }
+pub returns-in-Err-clause-items : goal.returns-in-Err-clause-items
+returns-in-Err-clause-items c = λ ws is.
+    let e = c.deref.ensures.value in
+    ap wants_of (c.insert.ensures.items ∙ cond-true _ _ _ (c.insert.ensures.succeeds c.requires.room))
+    ∙ not_found less_want want_ordered want_of pair_cmp pair_total pair_less (vec_items c.args.items.now) c.args.p ws is c.in-Err.i (rw e at c.in-Err.ensures.bound) (rw e at c.in-Err.ensures.place)
 
-pub returns : goal.returns
-returns c =
-    let xs = vec_items c.args.items.now in
-    let p = c.args.p in
-    let i = c.place-i.result in
-    let place = subst (λ l. Place less_want (want_of p) (wants_of l) i) c.as_slice.ensures.value c.place-i.ensures.place in
-    let done = c.insert.ensures.succeeds c.requires.room in
-    record {
-      items =
-          ap wants_of (c.insert.ensures.items ∙ cond-true _ _ _ done)
-          ∙ elim c.if-i-len.branch [
-            | then-i-len+else-not-comes_before w ↦
-                put_before less_want want_ordered want_of xs p i place _ (omega arith)
-                (ap (λ q. less_want (want_of p) (want_of q)) (sym w.index-q.ensures) ∙ sym w.if-not-comes_before.ensures.value)
-            | else-i-len w ↦ put_last less_want want_ordered want_of xs p i place (omega arith)
-          ];
-      len = omega (arith, c.insert.ensures.len ∙ cond-true _ _ _ done);
-      capacity = c.insert.ensures.capacity;
-    }
+pub returns-in_default-clause-items : goal.returns-in_default-clause-items
+returns-in_default-clause-items c = λ ws is.
+    let e = c.deref.ensures.value in
+    found less_want want_ordered want_of pair_cmp pair_total pair_less (vec_items c.args.items.now) c.args.p ws is c.in_default.field-0 (rw e at c.in_default.ensures.bound) (rw e at c.in_default.ensures.place)

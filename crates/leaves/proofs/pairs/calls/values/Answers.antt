@@ -1,20 +1,9 @@
-use Rattle.std.proofs.Common.{arith}
-use Rattle.leaves.proofs.Counting.{value_counted, value_passed, values_all}
+use Rattle.std.proofs.Common.{◌≡◌, ◌+◌, eqb, count_by, sym, ap, ◌∙◌, rules}
+use Rattle.std.proofs.iter.runs.Made.{chains}
+use Rattle.leaves.proofs.Counting.{values_counted}
 use Rattle.leaves.proofs.pairs.calls.values.Goals as goal
-use Rattle.leaves.proofs.pairs.calls.values.Goals.{then-p-f, else-p-f}
 
-pub loop-p-preserved : goal.loop-p-preserved
-loop-p-preserved c =
-    elim c.if-p-f.branch [
-      | then-p-f w ↦
-          let e = value_counted c.args.pairs.now c.args.f c.loop-p.p-index _ c.loop-p-test.true w.if-p-f.true in
-          (omega arith, omega arith, omega arith)
-      | else-p-f w ↦
-          let e = value_passed c.args.pairs.now c.args.f c.loop-p.p-index _ c.loop-p-test.true w.if-p-f.false in
-          (omega arith, omega arith, omega arith)
-    ]
-
-pub returns : goal.returns
-returns c =
-    let e = values_all c.args.pairs.now c.args.f c.loop-p.p-index c.loop-p-test.false in
-    record { value = omega arith; some = omega arith; few = omega arith }
+pub returns-clause-value : goal.returns-clause-value
+returns-clause-value c =
+    let e : c.count.result ≡ count_by (λ p. eqb p.field c.args.f) c.args.pairs.now = search (rules, chains) in
+    ap (λ n. 1 + n) e ∙ sym (values_counted c.args.f c.args.pairs.now)

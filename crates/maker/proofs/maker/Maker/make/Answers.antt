@@ -1,52 +1,27 @@
-use Rattle.std.proofs.Common.{sym, refl, ap, ◌∙◌, arith}
-use Rattle.text.specs.Texts.{nodes_of}
-use Rattle.text.specs.Trees.{meaning}
-use Rattle.prescribed.specs.Fit.{product}
+use Rattle.std.proofs.Common.{◌≡◌, MatchResult, Ok, Err, sym, arith, rules}
+use Rattle.maker.specs.declared.maker.NoTable.TheVariants.{Refused}
 use Rattle.maker.specs.Makers.{policy_of}
-use Rattle.maker.proofs.Handing.{held, has_room, no_room, no_table, handed}
+use Rattle.maker.proofs.Handing.{has_room, no_room, no_table, made_by, handed_by}
 use Rattle.maker.proofs.maker.Maker.make.Goals as goal
 
-pub returns-in_default : goal.returns-in_default
-returns-in_default c =
+pub returns-in_default-clause-made : goal.returns-in_default-clause-made
+returns-in_default-clause-made c =
     let lt = c.in_default.ensures.cases in
     let five = no_table c.args.self.now lt in
-    record { policy = refl; made = (omega (arith, no_room c.args.self.now lt), sym five, omega (arith, five), c.fill.ensures.after (λ y e. e)); handed = tt }
+    (omega (arith, no_room c.args.self.now lt), sym five, omega (arith, five), c.fill.ensures.after (λ y e. e))
 
-pub returns-then-out-leaves : goal.returns-then-out-leaves
-returns-then-out-leaves c =
+pub returns-then-out-leaves-clause-made : goal.returns-then-out-leaves-clause-made
+returns-then-out-leaves-clause-made c =
     let f = c.in-Some.ensures.cases in
-    record { policy = refl; made = (omega (arith, has_room c.args.self.now f.1, f.0, c.if-out-leaves.true), c.fill-then-out-leaves.ensures.after (λ y e. e)); handed = tt }
+    (omega (arith, has_room c.args.self.now f.1, f.0, c.if-out-leaves.true), c.fill-then-out-leaves.ensures.after (λ y e. e))
 
-pub put-requires : goal.put-requires
-put-requires c =
+pub returns-clause-made : goal.returns-clause-made
+returns-clause-made c =
     let f = c.in-Some.ensures.cases in
-    let is = c.as_slice.ensures.value in
-    record {
-      pairs = is ∙ held c.args.self.now;
-      low = c.as_slice.ensures.low;
-      unnamed = c.args.self.now.blank_of;
-      product = omega (arith, f.1, ap product is);
-      room = omega (arith, f.0, c.if-out-leaves.false, ap product is);
-    }
+    let told : MatchResult c.put.result (λ n. c.map_err.result ≡ Ok n) (λ e. c.map_err.result ≡ Err (Refused e)) = search rules in
+    made_by (policy_of c.args.self.now) _ c.put.new.out c.put.result c.map_err.result (omega (arith, has_room c.args.self.now f.1, f.0, c.if-out-leaves.false)) c.put.ensures.put told
 
-pub returns-in-Ok : goal.returns-in-Ok
-returns-in-Ok c =
-    let f = c.in-Some.ensures.cases in
-    let p = c.in-Ok.ensures.put in
-    let room = has_room c.args.self.now f.1 in
-    record {
-      policy = ap (λ t. meaning (nodes_of t)) c.in-Ok.ensures.text;
-      made = (omega (arith, room, f.0, c.if-out-leaves.false), p.0, p.1, p.2);
-      handed = handed (policy_of c.args.self.now) c.in-Ok.size c.put.new.out _ p.3 p.1 p.2;
-    }
-
-pub returns-in-Err : goal.returns-in-Err
-returns-in-Err c =
-    let f = c.in-Some.ensures.cases in
-    let p = c.in-Err.ensures.put in
-    let room = has_room c.args.self.now f.1 in
-    record {
-      policy = ap (λ t. meaning (nodes_of t)) c.in-Err.ensures.text;
-      made = (omega (arith, room, f.0, c.if-out-leaves.false), p.0, p.1, p.2);
-      handed = tt;
-    }
+pub returns-clause-handed : goal.returns-clause-handed
+returns-clause-handed c =
+    let told : MatchResult c.put.result (λ n. c.map_err.result ≡ Ok n) (λ e. c.map_err.result ≡ Err (Refused e)) = search rules in
+    handed_by (policy_of c.args.self.now) _ c.put.new.out c.put.result c.map_err.result c.put.ensures.put told

@@ -1,12 +1,9 @@
-use Rattle.std.proofs.Common.{◌∙◌, arith}
-use Rattle.notation.proofs.Flags.{latest_free, latest_skip, latest_none}
+use Rattle.std.proofs.Common.{rules, ◌∙◌}
+use Rattle.notation.proofs.Flags.{front_here, front_none}
 use Rattle.notation.proofs.used.Used.latest.Goals as goal
 
-pub returns-then-not-self-i : goal.returns-then-not-self-i
-returns-then-not-self-i c = record { value = latest_free c.args.self.now.flags c.loop-i.i c.loop-i-test.true c.if-not-self-i.true ∙ c.loop-i.invariant }
-
-pub loop-i-preserved : goal.loop-i-preserved
-loop-i-preserved c = latest_skip c.args.self.now.flags c.loop-i.i c.loop-i-test.true c.if-not-self-i.false ∙ c.loop-i.invariant
+pub returns-in_err-latest : goal.returns-in_err-latest
+returns-in_err-latest c = record { value = c.from_residual.ensures ∙ front_none c.args.self.now.flags c.args.n (search rules) (search rules) }
 
 pub returns : goal.returns
-returns c = record { value = latest_none c.args.self.now.flags c.loop-i.i (omega arith) ∙ c.loop-i.invariant }
+returns c = record { value = front_here c.args.self.now.flags c.args.n (search rules) c.in_ok-latest.latest (search rules) (search rules) (search rules) }

@@ -8,6 +8,6 @@ use Rattle.plan.proofs.builder.Builder.finish.Given as goal
 
 abbrev pub invariant-loop-slot : goal.invariant-loop-slot
 invariant-loop-slot l =
-    (whole (map slot_of (vec_items l.self.1.0)) ≡ before (map text_in (vec_items l.parts)) (whole (map slot_of l.slot-iterator.rest.items)))
+    (whole (map slot_of (vec_items l.fn.self.parts)) ≡ before (map text_in (vec_items l.parts)) (whole (map slot_of l.slot-iterator.rest.items)))
     × (vec_len l.parts + length l.slot-iterator.rest.items ≤ vec_capacity l.parts)
-    × (vec_len l.parts + length l.slot-iterator.rest.items ≤ vec_len l.self.1.0)
+    × (vec_len l.parts + length l.slot-iterator.rest.items ≤ vec_len l.fn.self.parts)

@@ -1,5 +1,5 @@
 use Rattle.std.proofs.Common.{◌≡◌, replicate, IfOk, None, ap, ◌∙◌, subst}
-use Rattle.octets.specs.Parse.{Read, byte}
+use Rattle.octets.specs.Parse.{Read, kind}
 use Rattle.octets.specs.Readers.{rest}
 use Rattle.plan.specs.Changes as spec
 use Rattle.plan.specs.Laws.{GoodFor}
@@ -7,13 +7,14 @@ use Rattle.plan.specs.Views.{plan_of, slots_of, texts_of}
 use Rattle.plan.proofs.Sizes.{change_read, change_size}
 use Rattle.plan.proofs.change.reads.read.Goals as goal
 
-pub returns-in-Ok-texts : goal.returns-in-Ok-texts
-returns-in-Ok-texts c =
-    let n = c.args.switches in
-    let all : Read (slots_of c.texts.new.builder) (rest c.texts.new.c) ≡ spec.texts n (replicate n None) (rest c.byte.new.self) =
-    c.in-Ok-texts.ensures.value ∙ ap (λ s. spec.texts n s (rest c.byte.new.self)) c.in_ok-builder.ensures.made in
-    let first : Read c.in-Ok.kind (rest c.byte.new.self) ≡ byte c.args.bytes.now = c.in-Ok.ensures ∙ ap byte c.new-c.ensures in
-    record {
-      value = change_read texts_of c.finish.result n c.in-Ok.kind c.args.bytes.now _ _ _ first c.if-kind-ne66.false all c.finish.ensures.value;
-      good = subst (λ k. IfOk c.finish.result (λ p. GoodFor k (plan_of p))) (change_size n _ _ _ all) c.finish.ensures.good;
-    }
+-- all texts were read
+all_read : (c : goal.After-finish) → Read (slots_of c.texts.new.builder) (rest c.texts.new.c) ≡ spec.texts c.args.switches (replicate c.args.switches None) (rest c.kind.new.self)
+all_read c = c.in_ok-texts.ensures.value ∙ ap (λ s. spec.texts c.args.switches s (rest c.kind.new.self)) c.in_ok-builder.ensures.made
+
+pub returns-clause-value : goal.returns-clause-value
+returns-clause-value c =
+    let first : Read c.in_ok-kind.field-0 (rest c.kind.new.self) ≡ kind 66 c.args.bytes.now = c.in_ok-kind.ensures ∙ ap (kind 66) c.new-c.ensures in
+    change_read texts_of c.finish.result c.args.switches c.in_ok-kind.field-0 c.args.bytes.now _ _ _ first (all_read c) c.finish.ensures.value
+
+pub returns-clause-good : goal.returns-clause-good
+returns-clause-good c = subst (λ k. IfOk c.finish.result (λ p. GoodFor k (plan_of p))) (change_size c.args.switches _ _ _ (all_read c)) c.finish.ensures.good

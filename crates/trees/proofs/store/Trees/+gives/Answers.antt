@@ -1,6 +1,7 @@
 -- Whether a packet is among the copies of a tree.
 use Rattle.std.proofs.Common.{◌∷◌, sym, ap, ◌∙◌}
 use Rattle.std.proofs.lemmas.Bool.{true≢false}
+use Rattle.std.proofs.lemmas.Slice.Eq.{bytes_eq-Decides}
 use Rattle.trees.specs.Trees.{copies_by}
 use Rattle.trees.specs.Nodes.{tree_at}
 use Rattle.trees.specs.Stores.{nodes_of}
@@ -15,9 +16,9 @@ returns-then-eq t c =
     let n = c.in-Also in
     record {
       test =
-          mem_here c.args.c.fields c.apply.result.fields _ _
+          mem_here c.eq.result c.args.c.fields c.apply.result.fields _ _ c.if-eq.true
           (also_copies ns (tree_at ns c.args.t) n.out n.rest p n.ensures.tree ∙ ap (λ x. x ∷ copies_by (tree_at ns n.rest) p) (sym c.apply.ensures.value))
-          (c.eq.ensures.test.0 c.if-eq.true);
+          ((bytes_eq-Decides _ _).0 (sym c.eq.ensures ∙ c.if-eq.true));
     }
 
 pub returns-in-Nothing : goal.returns-in-Nothing
@@ -34,7 +35,7 @@ returns-else-eq t c =
       test =
           mem_rest c.gives.result c.args.c.fields c.apply.result.fields _ (copies_by (tree_at ns n.rest) p)
           (also_copies ns (tree_at ns c.args.t) n.out n.rest p n.ensures.tree ∙ ap (λ x. x ∷ copies_by (tree_at ns n.rest) p) (sym c.apply.ensures.value))
-          (λ e. true≢false (sym (c.eq.ensures.test.1 e) ∙ c.if-eq.false)) c.gives.ensures.test;
+          (λ e. true≢false (sym ((bytes_eq-Decides _ _).1 e) ∙ sym c.eq.ensures ∙ c.if-eq.false)) c.gives.ensures.test;
     }
 
 pub returns-in-Test : goal.returns-in-Test

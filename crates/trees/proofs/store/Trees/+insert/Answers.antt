@@ -1,23 +1,24 @@
 -- One out more: it is there already, it goes behind the first, or in front.
-use Rattle.std.proofs.Common.{T, sym, subst}
+use Rattle.std.proofs.Common.{sym, ap, ◌∙◌}
 use Rattle.trees.specs.Stores.{nodes_of}
 use Rattle.trees.proofs.Alikes.{made_so}
+use Rattle.trees.proofs.Equal.{same_out}
 use Rattle.trees.proofs.Building.{kept_all, kept_then}
 use Rattle.trees.proofs.Inserting.{inserted_there, inserted_behind, inserted_front}
 use Rattle.trees.proofs.store.Trees.+insert.Goals as goal
 
-pub returns-then-is : goal.returns-then-is
-returns-then-is t c =
+pub returns-then-eq : goal.returns-then-eq
+returns-then-eq t c =
     let ns = nodes_of c.args.self.now in
     record {
       kept = kept_all ns;
       made =
           inserted_there ns c.args.t c.in-Also.rest c.args.out c.in-Also.first c.requires.there c.in-Also.ensures.tree
-          (c.is.ensures.same (subst T (sym c.if-is.true) tt));
+          (ap (λ o. o.sets) (same_out c.args.out c.in-Also.first (sym c.eq.ensures ∙ c.if-eq.true)));
     }
 
-pub returns-then-is_before : goal.returns-then-is_before
-returns-then-is_before t c =
+pub returns-then-lt : goal.returns-then-lt
+returns-then-lt t c =
     let ns = nodes_of c.args.self.now in
     let inner = c.in_ok-more.ensures in
     record {

@@ -8,16 +8,16 @@ use Rattle.trees.proofs.Inserting.{also_copies}
 use Rattle.trees.proofs.Agreeing.{none_copies, next_copies, all_none, all_miss, all_rest, all_like}
 use Rattle.trees.proofs.store.Trees.+is_within.Goals as goal
 
-pub returns-then-not-gives : goal.returns-then-not-gives
-returns-then-not-gives t c =
+pub returns-else-gives : goal.returns-else-gives
+returns-else-gives t c =
     let ns = nodes_of c.args.self.now in
     let p = c.args.p.fields in
     let n = c.in-Also in
     record {
       test =
-          all_miss c.apply.result.fields _ (copies_by (tree_at ns n.rest) p) _
+          all_miss c.gives.result c.apply.result.fields _ (copies_by (tree_at ns n.rest) p) _ c.if-gives.false
           (also_copies ns (tree_at ns c.args.s) n.out n.rest p n.ensures.tree ∙ ap (λ x. x ∷ copies_by (tree_at ns n.rest) p) (sym c.apply.ensures.value))
-          (λ m. true≢false (sym (c.gives.ensures.test.1 m) ∙ c.if-not-gives.true));
+          (λ m. true≢false (sym (c.gives.ensures.test.1 m) ∙ c.if-gives.false));
     }
 
 pub returns-in-Nothing : goal.returns-in-Nothing
@@ -25,8 +25,8 @@ returns-in-Nothing t c =
     let ns = nodes_of c.args.self.now in
     record { test = all_none _ _ (none_copies ns (tree_at ns c.args.s) c.args.p.fields c.in-Nothing.ensures.tree) }
 
-pub returns-else-not-gives : goal.returns-else-not-gives
-returns-else-not-gives t c =
+pub returns-then-gives : goal.returns-then-gives
+returns-then-gives t c =
     let ns = nodes_of c.args.self.now in
     let p = c.args.p.fields in
     let n = c.in-Also in
@@ -34,7 +34,7 @@ returns-else-not-gives t c =
       test =
           all_rest c.is_within.result c.apply.result.fields _ (copies_by (tree_at ns n.rest) p) _
           (also_copies ns (tree_at ns c.args.s) n.out n.rest p n.ensures.tree ∙ ap (λ x. x ∷ copies_by (tree_at ns n.rest) p) (sym c.apply.ensures.value))
-          (c.gives.ensures.test.0 c.if-not-gives.false) c.is_within.ensures.test;
+          (c.gives.ensures.test.0 c.if-gives.true) c.is_within.ensures.test;
     }
 
 pub returns-in-Test : goal.returns-in-Test

@@ -1,10 +1,9 @@
 -- The smallest difference.
-use Rattle.std.proofs.Common.{◌+◌, not, vec_items, sym, ap, ◌∙◌, subst, arith}
-use Rattle.std.proofs.lemmas.Bool.{true≢false}
+use Rattle.std.proofs.Common.{◌+◌, false, not, get_or, sym, ◌∙◌, subst, arith}
+use Rattle.std.proofs.lemmas.Bool.{true≢false, not-true}
 use Rattle.packet.specs.Packet.{Packet, put}
 use Rattle.trees.specs.Nodes.{tree_at}
-use Rattle.trees.specs.Search.{Settled}
-use Rattle.trees.specs.Walking.{Walked}
+use Rattle.trees.specs.Search.{Settled, Marked}
 use Rattle.trees.specs.Stores.{nodes_of}
 use Rattle.trees.proofs.Alikes.{made_so}
 use Rattle.trees.proofs.Building.{kept_all, kept_then}
@@ -18,7 +17,7 @@ settle-returns-then-agree t c =
     record {
       kept = kept_all ns;
       made =
-          settled_agree (tree_at ns c.args.a) (tree_at ns c.args.b) c.args.f c.args.q.fields c.if-f-lt8.false (omega arith)
+          settled_agree (tree_at ns c.args.at.first) (tree_at ns c.args.at.second) c.args.at.field c.args.at.packet.fields c.if-at-lt8.false (omega arith)
           (c.agree.ensures.test.0 c.if-agree.true);
     }
 
@@ -28,7 +27,7 @@ settle-returns-else-agree t c =
     record {
       kept = kept_all ns;
       made =
-          settled_differ (tree_at ns c.args.a) (tree_at ns c.args.b) c.args.f c.args.q.fields c.if-f-lt8.false c.requires.packet
+          settled_differ (tree_at ns c.args.at.first) (tree_at ns c.args.at.second) c.args.at.field c.args.at.packet.fields c.if-at-lt8.false c.requires.there.packet
           (λ same. true≢false (sym (c.agree.ensures.test.1 same) ∙ c.if-agree.false));
     }
 
@@ -44,25 +43,28 @@ settle_at-returns t c =
       made =
           made_so c.settle.result
           (λ r s.
-          settled_given ns ms ls c.args.f c.args.x c.args.a c.args.b c.in_ok-first.first c.in_ok-second.second one.kept two.kept
-          c.requires.second one.made two.made c.args.q.fields r (omega (arith, c.requires.packet.eight, c.requires.low))
-          (subst (λ (l : Packet). Settled (tree_at ls c.in_ok-first.first) (tree_at ls c.in_ok-second.second) (c.args.f + 1) l r) c.put.ensures.value s))
+          settled_given ns ms ls c.args.at.field c.args.x c.args.at.first c.args.at.second c.in_ok-first.first c.in_ok-second.second one.kept two.kept
+          c.requires.there.second one.made two.made c.args.at.packet.fields r (omega (arith, c.requires.there.packet.eight, c.requires.low))
+          (subst (λ (l : Packet). Settled (tree_at ls c.in_ok-first.first) (tree_at ls c.in_ok-second.second) (c.args.at.field + 1) l r) c.put.ensures.value s))
           c.settle.ensures.made;
     }
 
 pub walk-loop-x-preserved-then-stood : goal.walk-loop-x-preserved-then-stood
 walk-loop-x-preserved-then-stood t c =
     let ns = nodes_of c.args.self.now in
-    let marks = c.in_ok-marks.marks in
-    let ms = vec_items marks in
-    let known = c.in_ok-marks.ensures.made in
+    let a = tree_at ns c.args.at.first in
+    let b = tree_at ns c.args.at.second in
+    let ms = c.deref-named-items.result.now in
+    let f = c.args.at.field in
+    let known = subst (Marked f ns) (sym c.deref-named-items.ensures.value) c.in_ok-marks.ensures.made.1 in
     let x = c.loop-x.x in
-    let un = read_unmarked ms x c.index.result.now (omega (arith, known.0, marks.ok.0)) c.index.ensures (ap not c.if-unnamed.true) in (
+    let un = read_unmarked ms x c.loop-x-test.true c.if-not-named.true in (
       c.loop-x.invariant.0,
-      subst (λ b. Walked (tree_at ns c.args.a) (tree_at ns c.args.b) c.args.f c.args.q.fields ms (x + 1) b) (sym c.if-stood.true)
-          (walked_like (tree_at ns c.args.a) (tree_at ns c.args.b) c.args.f c.args.q.fields ms c.requires.low c.requires.packet.eight x c.loop-x-test.true
-          (λ y h. (unnamed c.args.f y ms h ns known.1 c.args.a, unnamed c.args.f y ms h ns known.1 c.args.b)) un
-          (subst (λ b. Walked (tree_at ns c.args.a) (tree_at ns c.args.b) c.args.f c.args.q.fields ms x b) c.if-stood.true c.loop-x.invariant.1)),
+      rw c.if-stood.true
+          (walked_like a b f c.args.at.packet.fields ms c.requires.low c.requires.there.packet.eight x
+          (omega (arith, c.deref-named-items.ensures.len, c.in_ok-marks.ensures.made.0, c.loop-x-test.true))
+          (λ y h. (unnamed f y ms h ns known c.args.at.first, unnamed f y ms h ns known c.args.at.second)) un
+          (rw c.if-stood.true at c.loop-x.invariant.1)),
     )
 
 pub walk-returns-in-Some : goal.walk-returns-in-Some
@@ -70,32 +72,31 @@ walk-returns-in-Some t c =
     let ns = nodes_of c.args.self.now in
     let x = c.loop-x.x in
     let inner = c.in_ok-found.ensures in
-    let q = c.args.q.fields in
+    let q = c.args.at.packet.fields in
     record {
       kept = kept_then c.loop-x.invariant.0 inner.kept;
       made =
-          walked_found (tree_at ns c.args.a) (tree_at ns c.args.b) c.args.f q (vec_items c.in_ok-marks.marks) c.requires.low c.requires.packet.eight x c.loop-x.stood
+          walked_found (tree_at ns c.args.at.first) (tree_at ns c.args.at.second) c.args.at.field q c.deref-named-items.result.now c.requires.low c.requires.there.packet.eight x c.loop-x.stood
           c.in-Some.found.fields c.loop-x.invariant.1
-          (subst (Settled (tree_at ns c.args.a) (tree_at ns c.args.b) (c.args.f + 1) (put c.args.f x q)) c.in-Some.is
-          (settled_kept ns (nodes_of c.loop-x.self) c.args.a c.args.b (c.args.f + 1) (put c.args.f x q) c.in_ok-found.field-0 c.loop-x.invariant.0 c.requires.first
-          c.requires.second inner.made));
+          (subst (Settled (tree_at ns c.args.at.first) (tree_at ns c.args.at.second) (c.args.at.field + 1) (put c.args.at.field x q)) c.in-Some.is
+          (settled_kept ns (nodes_of c.loop-x.self) c.args.at.first c.args.at.second (c.args.at.field + 1) (put c.args.at.field x q) c.in_ok-found.field-0 c.loop-x.invariant.0 c.requires.there.first
+          c.requires.there.second inner.made));
     }
 
 pub walk-loop-x-preserved : goal.walk-loop-x-preserved
 walk-loop-x-preserved t c =
     let ns = nodes_of c.args.self.now in
-    let marks = c.in_ok-marks.marks in
-    let ms = vec_items marks in
-    let known = c.in_ok-marks.ensures.made in
+    let a = tree_at ns c.args.at.first in
+    let b = tree_at ns c.args.at.second in
+    let ms = c.deref-named-items.result.now in
+    let f = c.args.at.field in
+    let q = c.args.at.packet.fields in
     let x = c.loop-x.x in
-    let inner = c.in_ok-found.ensures in
-    let q = c.args.q.fields in
-    let v = c.index.result.now in (
+    let inner = c.in_ok-found.ensures in (
       kept_then c.loop-x.invariant.0 inner.kept,
-      subst (λ b. Walked (tree_at ns c.args.a) (tree_at ns c.args.b) c.args.f q ms (x + 1) b) (sym c.either-stood.ensures.value)
-          (walked_more (tree_at ns c.args.a) (tree_at ns c.args.b) c.args.f q ms c.requires.low c.requires.packet.eight x c.loop-x.stood (not v)
-          (λ h. read_unmarked ms x v (omega (arith, known.0, marks.ok.0)) c.index.ensures h) c.loop-x.invariant.1
-          (subst (Settled (tree_at ns c.args.a) (tree_at ns c.args.b) (c.args.f + 1) (put c.args.f x q)) c.in_default.is
-          (settled_kept ns (nodes_of c.loop-x.self) c.args.a c.args.b (c.args.f + 1) (put c.args.f x q) c.in_ok-found.field-0 c.loop-x.invariant.0 c.requires.first
-          c.requires.second inner.made))),
+      walked_more a b f q ms c.requires.low c.requires.there.packet.eight x c.loop-x.stood (not (get_or ms x false))
+          (λ h. read_unmarked ms x c.loop-x-test.true (not-true _ h)) c.loop-x.invariant.1
+          (subst (Settled a b (f + 1) (put f x q)) c.in_default.is
+          (settled_kept ns (nodes_of c.loop-x.self) c.args.at.first c.args.at.second (f + 1) (put f x q) c.in_ok-found.field-0 c.loop-x.invariant.0
+          c.requires.there.first c.requires.there.second inner.made)),
     )

@@ -1,8 +1,7 @@
 -- The tree of a whole table.
-use Rattle.std.proofs.Common.{ℕ, List, subst}
-use Rattle.packet.specs.Table.{outputs, decided}
+use Rattle.std.proofs.Common.{subst}
+use Rattle.packet.specs.Table.{Table, outputs, decided}
 use Rattle.table.specs.Views.{rules_in}
-use Rattle.table.specs.Words.{rules_of}
 use Rattle.trees.specs.Stores.{nodes_of, Gives}
 use Rattle.trees.proofs.Alikes.{made_so}
 use Rattle.trees.proofs.Building.{kept_then}
@@ -12,13 +11,13 @@ use Rattle.trees.proofs.store.Trees.add.Goals as goal
 pub returns : goal.returns
 returns c =
     let one = c.in_ok-whole.ensures in
-    let ms = nodes_of c.rules.new.self in
+    let ms = nodes_of c.rules-2.new.self in
     record {
       kept = kept_then one.kept c.reduced.ensures.kept;
       made =
           made_so c.reduced.result
           (λ k l.
           sends_like ms (nodes_of c.reduced.new.self) (rules_in c.args.table) c.in_ok-whole.whole k
-          (subst (λ (ws : List ℕ). Gives ms c.in_ok-whole.whole (λ p. outputs (decided (rules_of ws) p) p)) c.words.ensures.value one.made) l)
+          (subst (λ (rs : Table). Gives ms c.in_ok-whole.whole (λ p. outputs (decided rs p) p)) c.rules.ensures.value one.made) l)
           c.reduced.ensures.made;
     }

@@ -1,30 +1,19 @@
--- A node that is there already is found; another is added.
-use Rattle.std.proofs.Common.{◌≡◌, ◌<◌, true, length, get_or, sym, ◌∙◌, subst}
-use Rattle.trees.specs.declared.node.Node.TheVariants.{Nothing}
-use Rattle.trees.specs.Nodes.{ordered}
+-- A node like this is there, or is added.
+use Rattle.trees.specs.contracts.node.NodePartialEq.TheImpl as node
 use Rattle.trees.specs.Stores.{nodes_of}
-use Rattle.trees.proofs.Building.{ordered_push, kept_all, pushed, stands_found}
+use Rattle.trees.proofs.Equal.{same_node}
+use Rattle.trees.proofs.Building.{ordered_after, put}
 use Rattle.trees.proofs.store.Trees.keep.Goals as goal
 
-pub returns-in-Ok : goal.returns-in-Ok
-returns-in-Ok c =
+pub invariant_of-self : goal.invariant_of-self
+invariant_of-self c =
     let s = c.args.self.now in
-    let found = c.in-Ok.ensures.found in
-    record {
-      kept = kept_all (nodes_of s);
-      made =
-          stands_found (nodes_of s) c.in-Ok.k c.args.node s.ordered
-          (subst (λ xs. c.in-Ok.k < length xs) c.as_slice.ensures.value found.0)
-          (subst (λ xs. get_or xs c.in-Ok.k Nothing ≡ c.args.node) c.as_slice.ensures.value found.1);
-    }
-
-pub invariant_of-self-2 : goal.invariant_of-self-2
-invariant_of-self-2 c =
-    let s = c.args.self.now in
-    record { ordered = subst (λ xs. ordered 0 xs ≡ true) (sym c.in_ok-push.ensures.items) (ordered_push (nodes_of s) c.args.node s.ordered c.requires.over) }
+    record { ordered = ordered_after node.eq-value.it (nodes_of s) c.args.node s.ordered c.requires.over _ c.insert_full.result c.insert_full.ensures.keys c.insert_full.ensures.err }
 
 pub returns : goal.returns
 returns c =
-    let s = c.args.self.now in
-    let both = pushed (nodes_of s) _ c.args.node c.len-k.result c.in_ok-push.ensures.items (c.len-k.ensures ∙ s.nodes.ok.0) in
+    let there = c.in_ok-number.ensures.stored in
+    let both =
+    put node.eq-value.it (nodes_of c.args.self.now) c.args.node c.args.self.now.ordered c.requires.over c.insert_full.new.self.keys c.in_ok-number.number
+    there.0 c.in_ok-number.ensures.keys there.1 (same_node c.args.node there.0 there.2) in
     record { kept = both.0; made = both.1 }

@@ -12,6 +12,6 @@ returns c =
         c.in_ok-marks.ensures.len,
         marked_take c.args.f (nodes_of c.args.self.now) c.mark.new.marks _ c.in_ok-marks.marks.len
             (c.mark.auto.marks ∙ c.as_mut_slice.ensures.len)
-            (subst (λ xs. Marked c.args.f xs c.mark.new.marks) c.as_slice.ensures.value c.mark.ensures.marked),
+            (subst (λ xs. Marked c.args.f xs c.mark.new.marks) c.as_slice.ensures.keys c.mark.ensures.marked),
       );
     }

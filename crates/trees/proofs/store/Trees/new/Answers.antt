@@ -5,4 +5,4 @@ use Rattle.trees.proofs.store.Trees.new.Goals as goal
 
 pub invariant_of-result : goal.invariant_of-result
 unfolding ordered
-invariant_of-result c = record { ordered = ap (ordered 0) c.new.ensures.items }
+invariant_of-result c = record { ordered = ap (ordered 0) c.new.ensures.empty }

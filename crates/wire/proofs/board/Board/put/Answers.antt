@@ -1,6 +1,12 @@
-use Rattle.std.proofs.Common.{rules}
+use Rattle.std.proofs.Common.{rules, set, ap, ◌∙◌}
+use Rattle.wire.specs.Wires.{wires_of}
 use Rattle.wire.proofs.Boards.{put_board}
 use Rattle.wire.proofs.board.Board.put.Goals as goal
 
 pub returns : goal.returns
-returns c = record { after = put_board c.args.self.now.wires c.args.i c.args.p c.args.wire (search rules) c.requires.switch c.requires.port }
+returns c =
+    let ws = c.args.self.now.wires in
+    record {
+      after = ap (λ r. wires_of (record { wires = set ws c.args.i r })) c.hung.ensures.after
+          ∙ put_board ws c.args.i c.args.p c.args.wire (search rules) c.hung.ensures.there;
+    }

@@ -1,27 +1,27 @@
-use Rattle.std.proofs.Common.{vec_items}
-use Rattle.notation.specs.Words.{left}
-use Rattle.wire.specs.Wires.{wires_of}
+use Rattle.std.proofs.Common.{◌<◌, vec_items, ◌∙◌, arith}
+use Rattle.wire.specs.Nets.{wires_in}
 use Rattle.script.specs.Described.{layout_of}
-use Rattle.script.proofs.Taken.{cable_kept, cable_read}
+use Rattle.script.proofs.Taken.{cable_kept, kept_alike}
 use Rattle.script.proofs.header.description.Description.cable.Goals as goal
 
-pub returns : goal.returns
-returns c =
+pub invariant_of-self-2 : goal.invariant_of-self-2
+invariant_of-self-2 c =
     let d = c.args.self.now in
     let i = c.in_ok-i.ensures in
     let p = c.in_ok-p.ensures in
-    let j = c.in_ok-j.ensures in
     let q = c.in_ok-q.ensures in
-    let held = wires_of c.put.new.self in
-    let half = wires_of c.put-2.new.self in
-    let all = wires_of c.put-3.new.self in
+    let held = c.open.new.self in
+    let all = c.link.new.self in
+    let one = c.open.ensures.alike in
+    let two = c.link.ensures.alike in
+    let li : c.in_ok-i.i < d.net.switches = omega (arith, i.bound, c.switches.ensures.value) in
+    let lj : c.in_ok-j.j < d.net.switches = omega (arith, c.in_ok-j.ensures.bound, c.switches-2.ensures.value, one.switches) in
+    let lq : c.in_ok-q.q < d.net.ports = omega (arith, q.bound, one.ports) in
     record {
-      value = (
-        cable_kept (layout_of d) (vec_items d.cables) (vec_items d.ends) c.requires.kept c.in_ok-i.i c.in_ok-p.p c.in_ok-j.j c.in_ok-q.q
-            held half all (vec_items c.push.new.self) i.bound p.bound j.bound q.bound p.free q.free
-            c.put.ensures.after c.put-2.ensures.after c.put-3.ensures.after c.in_ok-push.ensures.items,
-        cable_read (layout_of d) (left c.args.words.now) (left c.below.new.words) (left c.free_port.new.words) (left c.below-2.new.words) (left c.free_port-2.new.words)
-            c.in_ok-i.i c.in_ok-p.p c.in_ok-j.j c.in_ok-q.q held half all
-            i.value p.value j.value q.value c.if-not-is_done.ensures.value c.put.ensures.after c.put-2.ensures.after c.put-3.ensures.after,
-      );
+      kept =
+          kept_alike d.net.switches all.switches d.net.ports all.ports d.hops (vec_items c.push.new.self) (vec_items d.ends) (wires_in all)
+          (two.switches ∙ one.switches) (two.ports ∙ one.ports)
+          (cable_kept (layout_of d) (vec_items d.cables) (vec_items d.ends) d.kept c.in_ok-i.i c.in_ok-p.p c.in_ok-j.j c.in_ok-q.q
+          (wires_in held) (wires_in all) (vec_items c.push.new.self) li p.bound lj lq p.free q.free
+          c.open.ensures.wires c.link.ensures.wires c.in_ok-push.ensures.items);
     }

@@ -1,7 +1,0 @@
-use Rattle.std.proofs.Common.{sym, arith}
-use Rattle.leaves.specs.Outs.{setting_of}
-use Rattle.leaves.proofs.Fronts.{front_long}
-use Rattle.leaves.proofs.outs.Out.len.Goals as goal
-
-pub returns : goal.returns
-returns c = record { value = sym (front_long setting_of _ c.args.self.now.count (omega arith)); few = c.args.self.now.within }
