@@ -1,5 +1,6 @@
 -- One line of a header more.
-use Rattle.std.proofs.Common.{◌≡◌, ℕ, ◌+◌, ◌⊎◌, List, [], ◌∷◌, ◌++◌, map, Some, None, Err, sym, ap, ◌∙◌, inl, inr}
+use Rattle.std.proofs.Common.{◌≡◌, ℕ, ◌+◌, ◌⊎◌, List, [], ◌∷◌, ◌++◌, map, Option, Some, None, Ok, Err, Result, MatchResult, sym, ap, ◌∙◌, subst, inl, inr, arith}
+use Rattle.std.specs.Result.{IsErrAnd}
 use Rattle.std.proofs.lemmas.List.{map_push}
 use Rattle.octets.specs.declared.fault.Fault.{Fault}
 use Rattle.octets.specs.declared.fault.Fault.TheVariants.{Memory}
@@ -11,6 +12,7 @@ use Rattle.notation.specs.Words.{Word}
 use Rattle.notation.specs.Reading.{Got, Read, Bad, and_then}
 use Rattle.wire.specs.Layouts.{Layout}
 use Rattle.script.specs.declared.line.TextLine.{TextLine}
+use Rattle.script.specs.declared.header.Header.{Header}
 use Rattle.script.specs.declared.header.Placed as declared
 use Rattle.script.specs.declared.header.draft.Went.TheVariants.{On, Begun}
 use Rattle.script.specs.declared.header.headings.Heading.TheVariants as heading
@@ -71,3 +73,22 @@ first_stops k n all rest l is e = ap (λ g. opens (k + 1) rest g (opening (k + 1
 pub first_end : (k : ℕ) (all : List (List ℕ)) → all ≡ [] → Unfinished ≡ opening k all
 unfolding opening
 first_end k all is = ap (opening k) (sym is)
+
+-- an answer whose fault gets its line: the value, or the fault that it was
+pub went_on : {X : Type 0} (G : Result X Fault → Type 0) (r : Result X Fault) (m : Result X Refusal) (Post : Fault → Refusal → Type 0) (x : X) →
+    G r → MatchResult r (λ y. m ≡ Ok y) (λ f. IsErrAnd m (Post f)) → m ≡ Ok x → G (Ok x)
+went_on G (Ok y) m Post x g maps is = let same : y ≡ x = cc in subst (λ z. G (Ok z)) same g
+went_on G (Err f) (Ok y) Post x g maps is = absurd maps
+went_on {X} G (Err f) (Err e) Post x g maps is = let no : ◌≡◌ {A = Result X Refusal} (Err e) (Ok x) = is in absurd (ok_is_no_err no)
+  where
+    ok_is_no_err : ◌≡◌ {A = Result X Refusal} (Err e) (Ok x) → ⊥
+    ok_is_no_err h = let z : ◌≡◌ {A = ℕ} 0 1 = cc in absurd (omega arith)
+
+pub stopped_at : {X : Type 0} (G : Result X Fault → Type 0) (r : Result X Fault) (m : Result X Refusal) (k : ℕ) (Post : Fault → Refusal → Type 0) (e : Refusal) →
+    G r → MatchResult r (λ y. m ≡ Ok y) (λ f. IsErrAnd m (Post f)) → ((f : Fault) (z : Refusal) → Post f z → z ≡ refusal f k) → m ≡ Err e → (f : Fault) × G (Err f) × (e ≡ refusal f k)
+stopped_at {X} G (Ok y) m k Post e g maps tells is = let no : ◌≡◌ {A = Result X Refusal} (Ok y) (Err e) = cc in let z : ◌≡◌ {A = ℕ} 0 1 = cc in absurd (omega arith)
+stopped_at G (Err f) (Ok y) k Post e g maps tells is = absurd maps
+stopped_at {X} G (Err f) (Err z) k Post e g maps tells is = let same : z ≡ e = cc in (f, g, sym same ∙ tells f z maps)
+
+pub told_err : (r : Result (Option Header) Refusal) (y e : Refusal) (o : Outcome) → r ≡ Err y → y ≡ e → Headed (Err e) o → Headed r o
+told_err r y e o is same h = subst (λ q. Headed q o) (sym (is ∙ ap Err same)) h

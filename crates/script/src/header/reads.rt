@@ -57,10 +57,12 @@ fn describe<'a>(
         texts: Vec::new(heap),
     };
     while let Some((line, bytes)) = lines.next() {
-        match draft.line(line, bytes) {
-            Ok(Went::On) => {}
-            Ok(Went::Begun) => return begin(heap, draft, line, lines.left()),
-            Err(fault) => return Err(refused(fault, line)),
+        match draft
+            .line(line, bytes)
+            .map_err(|fault| refused(fault, line))?
+        {
+            Went::On => {}
+            Went::Begun => return begin(heap, draft, line, lines.left()),
         }
     }
     Ok(None)
@@ -89,10 +91,8 @@ pub fn read<'a>(heap: Global, script: &'a [u8]) -> Result<Option<Header<'a>>, Re
 {
     let mut lines = Lines::new(script);
     while let Some((line, bytes)) = lines.next() {
-        match first(heap, bytes) {
-            Ok(None) => {}
-            Ok(Some(description)) => return describe(heap, description, lines),
-            Err(fault) => return Err(refused(fault, line)),
+        if let Some(description) = first(heap, bytes).map_err(|fault| refused(fault, line))? {
+            return describe(heap, description, lines);
         }
     }
     Ok(None)
