@@ -1,4 +1,4 @@
-// How a program ends: what it prints last, and its status.
+// How a program ends: what it prints last, and its status. No clause can say what a stream is given, so these say the status alone.
 ghost use Rattle.std.specs.Prelude.{◌≡◌, IfOk};
 
 use crate::refusal;

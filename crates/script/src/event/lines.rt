@@ -91,10 +91,7 @@ impl fmt::Display for Event {
                 f,
                 "switch {number} versions{versions} stamp {stamp} floor {floor}"
             ),
-            Event::Refused(fault) => {
-                let number = fault.number().unwrap_or(0);
-                write!(f, "refused {number}")
-            }
+            Event::Refused(fault) => write!(f, "refused {}", fault.number().unwrap_or(0)),
             Event::Impossible => f.write_str("impossible"),
         }
     }
@@ -105,8 +102,6 @@ impl Event {
     pub fn line(self, heap: Global) -> Result<String, AllocError>
         ensures made { IfOk result (λ s. string_bytes s ≡ spec.line_of self) }
     {
-        let mut text = String::new(heap);
-        write!(text, "{self}")?;
-        Ok(text)
+        format!(in heap; "{self}")
     }
 }
