@@ -5,7 +5,6 @@ ghost use Rattle.packet.specs.Copies.{listing, Took};
 
 use super::Copies;
 use crate::packets::Packet;
-use arrayvec::ArrayVec;
 use octets::Fault;
 
 impl<const MOST: usize> Copies<MOST> {
@@ -13,7 +12,8 @@ impl<const MOST: usize> Copies<MOST> {
         ensures value { listing result ≡ [] }
     {
         Copies {
-            packets: ArrayVec::new(),
+            packets: [Packet::default(); MOST],
+            count: 0,
         }
     }
 
@@ -21,38 +21,38 @@ impl<const MOST: usize> Copies<MOST> {
         requires { 1 ≤ MOST }
         ensures value { listing result ≡ p.fields ∷ [] }
     {
-        let mut packets = ArrayVec::new();
-        packets.push(p);
-        Copies { packets }
+        Copies {
+            packets: [p; MOST],
+            count: 1,
+        }
     }
 
     // The same packets again.
     pub fn copy(&self) -> Copies<MOST>
         ensures value { listing result ≡ listing self.now }
     {
-        let mut packets = ArrayVec::new();
-        packets.try_extend_from_slice(self.as_slice()).unwrap();
-        Copies { packets }
+        *self
     }
 
     pub fn as_slice(&self) -> &[Packet]
         ensures value { fields_of result.now ≡ listing self.now }
         ensures few { length result.now ≤ MOST }
     {
-        self.packets.as_slice()
+        &self.packets[..self.count]
     }
 
     // One packet more, unless it is there already.
     pub fn add(&mut self, p: Packet) -> Result<(), Fault>
         ensures cases { Took MOST (listing self.old ++ p.fields ∷ []) result self.new }
     {
-        if self.packets.as_slice().contains(&p) {
+        if self.as_slice().contains(&p) {
             return Ok(());
         }
-        if self.packets.is_full() {
+        if self.count == MOST {
             return Err(Fault::Copies);
         }
-        self.packets.push(p);
+        self.packets[self.count] = p;
+        self.count += 1;
         Ok(())
     }
 

@@ -1,5 +1,11 @@
-use Rattle.packet.proofs.Gathering.{once_since_one}
+use Rattle.std.proofs.Common.{sym, ap, ◌∙◌}
+use Rattle.std.proofs.lemmas.List.{take-replicate}
+use Rattle.packet.specs.Packet.{once}
+use Rattle.packet.specs.Listed.{fields_of}
+use Rattle.packet.proofs.Once.{once_one}
 use Rattle.packet.proofs.copies.Copies.one.Goals as goal
 
-pub invariant_of-result-clause-apart : goal.invariant_of-result-clause-apart
-invariant_of-result-clause-apart g c = once_since_one c.new-packets.result.items c.args.p _ c.new-packets.ensures c.push.ensures.items
+pub invariant_of-result : goal.invariant_of-result
+invariant_of-result g c =
+    let alone = take-replicate 1 _ c.args.p c.requires in
+    record { few = c.requires; apart = ap (λ ps. once (fields_of ps)) alone ∙ once_one c.args.p.fields ∙ sym (ap fields_of alone) }
