@@ -1,7 +1,7 @@
 -- What a policy gives, by what its parts give.
-use Rattle.std.proofs.Common.{◌≡◌, ℕ, ◌+◌, ◌<◌, ◌≤◌, Bool, true, false, ◌||◌, ltb, List, [], ◌∷◌, ◌++◌, length, get_or, take, drop, Ok, Err, Result, sym, refl, ap, ◌∙◌, subst, arith}
-use Rattle.std.proofs.lemmas.Bool.{cond-true, cond-false, ltb-true, lt-ltb, le-ltb, or_from, or_left, or_right}
-use Rattle.std.proofs.lemmas.List.{length-map, map_more, map-append, take-append-drop}
+use Rattle.std.proofs.Common.{◌≡◌, ℕ, ◌+◌, ◌<◌, ◌≤◌, Bool, true, false, ◌||◌, cond, ltb, List, [], ◌∷◌, ◌++◌, length, get_or, take, drop, Ok, Err, Result, sym, refl, ap, ◌∙◌, subst, arith}
+use Rattle.std.proofs.lemmas.Bool.{ltb-true, lt-ltb, le-ltb, or_from, or_left, or_right}
+use Rattle.std.proofs.lemmas.List.{length-map, length-take, map_more, map-append, take-append-drop}
 use Rattle.std.specs.Result.{IsErrAnd}
 use Rattle.std.proofs.lemmas.Result.{err_from_is_err_and}
 use Rattle.octets.specs.declared.fault.Fault.{Fault}
@@ -29,7 +29,7 @@ told_same f g ps qs (Err x) e o h = (sym e ∙ h.0, h.1)
 
 -- a set never holds more than 16 packets
 pub gathered : {n : ℕ} (s : Copies n) (ps : List packets.Packet) → n ≤ 16 → listing s ≡ once ps → Told (ltb 16 (length (once ps))) ps (Ok s)
-gathered s ps le e = (le-ltb 16 (length (once ps)) (omega (arith, ap length e, length-map s.packets.items (λ q. q.fields), s.few)), e)
+gathered s ps le e = (le-ltb 16 (length (once ps)) (omega (arith, ap length e, length-map (take s.count s.packets) (λ q. q.fields), length-take s.count s.packets, s.few)), e)
 
 -- and one that has no room for a packet has 16
 overflows : (n : ℕ) (ps : List packets.Packet) → 16 ≤ n → ltb n (length ps) ≡ true → ltb 16 (length ps) ≡ true
@@ -46,14 +46,13 @@ or_false : (x : Bool) → x ≡ (x || false)
 or_false true = refl
 or_false false = refl
 
-module _ {n : ℕ} (t : Test) (p : packets.Packet) (s : Copies n) where
-  pub keep_passed : true ≡ holds t p → listing s ≡ p ∷ [] → Answered (keep t) p (Ok s)
-  unfolding copies overfull
-  keep_passed h e = (refl, e ∙ sym (ap once (cond-true (holds t p) (p ∷ []) [] (sym h)) ∙ once_one p))
-
-  pub keep_refused : false ≡ holds t p → listing s ≡ [] → Answered (keep t) p (Ok s)
-  unfolding copies overfull once
-  keep_refused h e = (refl, e ∙ sym (ap once (cond-false (holds t p) (p ∷ []) [] (sym h))))
+pub keep_gives : {n : ℕ} (t : Test) (p : packets.Packet) (b : Bool) (s : Copies n) → b ≡ holds t p → listing s ≡ cond b (p ∷ []) [] → Answered (keep t) p (Ok s)
+unfolding copies overfull once
+keep_gives t p b s h e = (
+  refl,
+  e ∙ ap (λ x. cond x (p ∷ []) []) h
+      ∙ elim (holds t p) as (λ x. cond x (p ∷ []) [] ≡ once (cond x (p ∷ []) [])) [ true ↦ sym (once_one p) | false ↦ refl ],
+)
 
 pub put_gives : {n : ℕ} (f x : ℕ) (p q : packets.Packet) (s : Copies n) → q ≡ put f x p → listing s ≡ q ∷ [] → Answered (puts f x) p (Ok s)
 unfolding copies overfull

@@ -20,7 +20,8 @@ pub struct Evaluator {
     rows: Vec<Row>,
     // What each node gave.
     kept: Vec<Kept>,
-    ghost room: { 1 ≤ vec_capacity rows },
+    ghost room: { vec_capacity rows ≡ 32 },
+    ghost few_rows: { vec_len rows ≤ 32 },
     ghost rows_right: { All (RowRight (nodes_of text)) (vec_items rows) },
     ghost long: { vec_len kept ≡ vec_len text.nodes },
     ghost kept_right: { AllKept (nodes_of text) (vec_items kept) },

@@ -1,5 +1,6 @@
 // The copies that a node gives of a packet, by recursion on the node's number.
-ghost use Rattle.std.specs.Prelude.{◌≡◌, ◌<◌, length, IfSome};
+ghost use Rattle.std.specs.Prelude.{◌≡◌, ◌<◌, [], ◌∷◌, cond, length, IfSome};
+ghost use Rattle.packet.specs.Copies.{listing};
 ghost use Rattle.packet.specs.Listed.{fields_of};
 ghost use Rattle.packet.specs.Policy.{keep, and, then};
 ghost use Rattle.text.specs.Texts.{nodes_of};
@@ -9,32 +10,30 @@ ghost use Rattle.meaning.specs.Evaluators.{text_of};
 
 use super::Evaluator;
 use crate::copies::Copies;
-use crate::memo::Entry;
 use crate::tests::node_at;
 use octets::Fault;
 use packet::Packet;
 use text::Node;
 
-impl Evaluator {
-    fn give_keep(&mut self, a: u16, p: Packet) -> Copies
-        requires within { a < length (nodes_of (text_of self.old)) }
-        ensures text { text_of self.new ≡ text_of self.old }
-        ensures answer { Answered (keep (test_at (trees (nodes_of (text_of self.old))) a)) p.fields (Ok result) }
-    {
-        if self.passes(a, p) {
-            Copies::one(p)
-        } else {
-            Copies::none()
-        }
+// The packet, if it passed.
+fn kept_if(passed: bool, p: Packet) -> Copies
+    ensures value { listing result ≡ cond passed (p.fields ∷ []) [] }
+{
+    if passed {
+        Copies::one(p)
+    } else {
+        Copies::none()
     }
+}
 
+impl Evaluator {
     // What node k gave of the packet, if it was kept.
     fn recall(&self, k: u16, p: Packet) -> Option<Copies>
         requires within { k < length (nodes_of (text_of self.now)) }
         ensures found { IfSome result (λ s. Answered (policy_at (trees (nodes_of (text_of self.now))) k) p.fields (Ok s)) }
     {
         let entry = self.kept[k as usize].find(self.asked, p)?;
-        Some(entry.copies.copy())
+        Some(entry.copies)
     }
 
     fn remember(&mut self, k: u16, p: Packet, copies: &Copies)
@@ -42,11 +41,28 @@ impl Evaluator {
         requires right { Answered (policy_at (trees (nodes_of (text_of self.old))) k) p.fields (Ok copies.now) }
         ensures text { text_of self.new ≡ text_of self.old }
     {
-        let entry = Entry {
-            packet: p,
-            copies: copies.copy(),
-        };
-        self.kept[k as usize].keep(self.asked, entry);
+        self.kept[k as usize].keep(self.asked, p, copies);
+    }
+
+    // What node k gives, which keeps a packet that passes test a. A row is made only where there is none and nothing was kept.
+    // A function pays for the room of what it calls in line, so the three that want most of it are called.
+    #[inline(never)]
+    fn give_keep(&mut self, k: u16, a: u16, p: Packet) -> Copies
+        requires within { k < length (nodes_of (text_of self.old)) }
+        requires test { a < length (nodes_of (text_of self.old)) }
+        requires is { let ts = trees (nodes_of (text_of self.old)) in policy_at ts k ≡ keep (test_at ts a) }
+        ensures text { text_of self.new ≡ text_of self.old }
+        ensures answer { Answered (policy_at (trees (nodes_of (text_of self.old))) k) p.fields (Ok result) }
+    {
+        if let Some(passed) = self.told(a, p) {
+            return kept_if(passed, p);
+        }
+        if let Some(copies) = self.recall(k, p) {
+            return copies;
+        }
+        let copies = kept_if(self.passes_anew(a, p), p);
+        self.remember(k, p, &copies);
+        copies
     }
 
     // What node k gives.
@@ -57,17 +73,16 @@ impl Evaluator {
         ensures answer { Answered (policy_at (trees (nodes_of (text_of self.old))) k) p.fields result }
     {
         match node_at(&self.text, k as usize) {
-            Node::Keep(a) => Ok(self.give_keep(a, p)),
+            Node::Keep(a) => Ok(self.give_keep(k, a, p)),
             Node::Put(f, x) => Ok(Copies::one(p.put(f, x))),
             Node::And(a, b) => self.give_and(k, a, b, p),
             Node::Then(a, b) => self.give_then(k, a, b, p),
             // A test stands for keeping it.
             Node::Always | Node::Is(_, _) | Node::Both(_, _) | Node::Either(_, _) | Node::Not(_) =>
-                Ok(self.give_keep(k, p)),
+                Ok(self.give_keep(k, k, p)),
         }
     }
 
-    // A function pays for the room of what it calls in line, so the two that want most of it are called.
     #[cycle(give)]
     #[inline(never)]
     fn give_and(&mut self, k: u16, a: u16, b: u16, p: Packet) -> Result<Copies, Fault>

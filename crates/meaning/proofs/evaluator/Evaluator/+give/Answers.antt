@@ -79,9 +79,9 @@ give_then-returns-clause-answer t c =
     answer_of_lem _ _ _ (Ok c.in_ok-all.all) c.requires.both
     (then_each _ _ _ c.in_ok-some.some _ (Ok c.in_ok-all.all) c.as_slice.ensures.value c.in_ok-some.ensures.answer (rw c.give.ensures.text at c.in_ok-all.ensures.answer))
 
-pub give-returns-in-Keep-clause-answer : goal.give-returns-in-Keep-clause-answer
+pub give-give_keep-requires-clause-is : goal.give-give_keep-requires-clause-is
 unfolding tree_of
-give-returns-in-Keep-clause-answer t c = answer_of_lem _ _ _ (Ok c.give_keep.result) (ap as_policy c.in-Keep.ensures.stands.tree) c.give_keep.ensures.answer
+give-give_keep-requires-clause-is t c = ap as_policy c.in-Keep.ensures.stands.tree
 
 pub give-returns-in-Put-clause-answer : goal.give-returns-in-Put-clause-answer
 unfolding tree_of
@@ -101,10 +101,7 @@ give-give_then-requires t c =
     let s = c.in-Then.ensures.stands in
     (search rules, (c.requires.within, (s.earlier.0, (s.earlier.1, ap as_policy s.tree))))
 
-pub give-returns-in-Always : goal.give-returns-in-Always
-give-returns-in-Always t c =
+pub give-give_keep-requires-in-Always : goal.give-give_keep-requires-in-Always
+give-give_keep-requires-in-Always t c =
     let is = ⊎_elim (ap a_test_lem) (⊎_elim (λ h. ap a_test_lem h.2) (⊎_elim (λ h. ap a_test_lem h.2) (⊎_elim (λ h. ap a_test_lem h.2) (λ h. ap a_test_lem h.1)))) c.in-Always.is in
-    record {
-      text = c.give_keep-in-Always.ensures.text;
-      answer = answer_of_lem _ _ _ (Ok c.give_keep-in-Always.result) (test_keeps _ _ c.node_at.result c.node_at.ensures.stands is) c.give_keep-in-Always.ensures.answer;
-    }
+    record { within = c.requires.within; test = c.requires.within; is = test_keeps _ _ c.node_at.result c.node_at.ensures.stands is }

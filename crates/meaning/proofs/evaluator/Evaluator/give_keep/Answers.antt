@@ -1,8 +1,15 @@
-use Rattle.meaning.proofs.Answering.{keep_passed, keep_refused}
+use Rattle.std.proofs.Common.{Ok}
+use Rattle.meaning.proofs.Answering.{answer_of_lem, keep_gives}
 use Rattle.meaning.proofs.evaluator.Evaluator.give_keep.Goals as goal
 
-pub returns-then-passes-clause-answer : goal.returns-then-passes-clause-answer
-returns-then-passes-clause-answer c = keep_passed _ _ c.one.result c.if-passes.ensures.value c.one.ensures.value
+pub returns-in-Some-clause-answer : goal.returns-in-Some-clause-answer
+returns-in-Some-clause-answer c = answer_of_lem _ _ _ (Ok c.kept_if.result) c.requires.is (keep_gives _ _ _ c.kept_if.result c.in-Some.ensures.value c.kept_if.ensures.value)
 
-pub returns-else-passes-clause-answer : goal.returns-else-passes-clause-answer
-returns-else-passes-clause-answer c = keep_refused _ _ c.none.result c.if-passes.ensures.value c.none.ensures.value
+pub remember-requires-clause-right : goal.remember-requires-clause-right
+remember-requires-clause-right c =
+    rw c.passes_anew.ensures.text
+    (answer_of_lem _ _ _ (Ok c.kept_if-copies.result) c.requires.is (keep_gives _ _ _ c.kept_if-copies.result c.passes_anew.ensures.value c.kept_if-copies.ensures.value))
+
+pub returns-clause-answer : goal.returns-clause-answer
+returns-clause-answer c =
+    answer_of_lem _ _ _ (Ok c.kept_if-copies.result) c.requires.is (keep_gives _ _ _ c.kept_if-copies.result c.passes_anew.ensures.value c.kept_if-copies.ensures.value)
