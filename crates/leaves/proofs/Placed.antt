@@ -1,5 +1,6 @@
 -- An element is inserted at its place, and a rising list has one more element.
-use Rattle.std.proofs.Common.{◌≡◌, ℕ, zero, suc, ◌<◌, ◌≤◌, Bool, true, false, List, [], ◌∷◌, ◌++◌, map, length, get_or, Ordering, Less, Equal, Greater, Err, sym, refl, ap, ◌∙◌, subst, ⊎_elim, arith, add-one}
+use Rattle.std.proofs.Common.{◌≡◌, ℕ, zero, suc, ◌+◌, ◌-◌, ◌<◌, ◌≤◌, Bool, true, false, List, [], ◌∷◌, ◌++◌, map, length, get_or, take, drop, set, Ordering, Less, Equal, Greater, Err, sym, refl, ap, ◌∙◌, subst, ⊎_elim, arith, add-one}
+use lib.Seq.{paste}
 use mathlib.Core.List.Memᴰ
 use mathlib.Core.List.{Memᴰ}
 use Rattle.std.specs.Cmp.{IsTotalOrder}
@@ -8,6 +9,7 @@ use Rattle.std.specs.List.Sorted.{IsSortedBy, IsBinarySearchResult}
 use Rattle.std.specs.Ordering.{is_lt, ordering_reverse}
 use Rattle.std.proofs.lemmas.Bool.{cases_Bool, both_ways, cond-true, cond-false}
 use Rattle.std.proofs.lemmas.Cmp.{tied_back}
+use Rattle.std.proofs.lemmas.List.{length-take-le, length-append, length-drop, append_assoc, take_more, take-take, take_at, drop-take, set_at}
 use Rattle.std.proofs.lemmas.List.Sorted.{searchable_from_sorted}
 use Rattle.prescribed.specs.Order.{insert, rising}
 use Rattle.prescribed.proofs.Members.{SameElements, all_member}
@@ -104,3 +106,30 @@ module _ {A X : Type 0} (less : A → A → Bool) (order : Ordered less) (f : X 
     not_found i le at =
         let p = at (searchable_from_sorted total (λ y. y) ys x (sorted ys rises)) in
         placed less order f ys x i le (λ k lt. is_less (get_or ys k x) x (p.0 k x (omega arith) lt)) (λ lt. is_more (get_or ys i x) x (p.1 i x (omega arith) lt))
+
+-- room is made at place i: what stands there up to place n goes one place on, and x comes in
+module _ {X : Type 0} (xs : List X) (i n : ℕ) (x : X) (le : i ≤ n) (lt : n < length xs) where
+  abbrev moved : List X
+  moved = take (n - i) (drop i xs)
+
+  abbrev rest : List X
+  rest = drop ((i + 1) + (n - i)) xs
+
+  moved_long : length moved ≡ n - i
+  moved_long = length-take-le (n - i) (drop i xs) (omega (arith, length-drop i xs))
+
+  pasted : set (paste xs (i + 1) (drop i xs) (n - i)) i x ≡ (take i xs ++ x ∷ moved) ++ rest
+  pasted =
+      ap (λ l. set ((l ++ moved) ++ rest) i x) (take_more xs i x (omega arith))
+      ∙ ap (λ l. set l i x) (append_assoc (take i xs ++ get_or xs i x ∷ []) moved rest ∙ append_assoc (take i xs) (get_or xs i x ∷ []) (moved ++ rest))
+      ∙ set_at (take i xs) (get_or xs i x) (moved ++ rest) x i (length-take-le i xs (omega arith))
+      ∙ sym (append_assoc (take i xs) (x ∷ moved) rest)
+
+  pub shifted : take (n + 1) (set (paste xs (i + 1) (drop i xs) (n - i)) i x) ≡ inserted (take n xs) i x
+  shifted =
+      ap (take (n + 1)) pasted
+      ∙ take_at (take i xs ++ x ∷ moved) rest (n + 1) (omega (arith, length-append (take i xs) (x ∷ moved), length-take-le i xs (omega arith), moved_long))
+      ∙ sym (λ k. take-take i n xs le k ++ x ∷ inside k)
+    where
+      inside : drop i (take n xs) ≡ moved
+      inside = let e : n ≡ i + (n - i) = omega arith in ap (λ m. drop i (take m xs)) e ∙ drop-take i (n - i) xs

@@ -29,7 +29,7 @@ fn place(pairs: &[Pair], p: Pair) -> Result<usize, usize>
     ensures bound { IsSearchInRange result (length pairs.now) }
     ensures place { IsBinarySearchResult (λ q. ordering_then (nat_cmp q.field p.field) (nat_cmp q.value p.value)) pairs.now result }
 {
-    pairs.binary_search(&p)
+    pairs.binary_search_by(|q| q.cmp(&p))
 }
 
 // One pair more at its place, unless it is there.

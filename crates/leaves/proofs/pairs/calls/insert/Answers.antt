@@ -3,8 +3,8 @@ use Rattle.std.proofs.lemmas.Bool.{cond-true}
 use Rattle.packet.specs.Pairs.{want_of}
 use Rattle.prescribed.specs.Order.{less_want}
 use Rattle.prescribed.proofs.Orders.{want_ordered}
-use Rattle.leaves.specs.Pairs.{wants_of}
-use Rattle.leaves.proofs.Deciding.{pair_cmp, pair_total, pair_less}
+use Rattle.leaves.specs.Pairs.{wants_of, pair_cmp}
+use Rattle.leaves.proofs.Deciding.{pair_total, pair_less}
 use Rattle.leaves.proofs.Placed.{found, not_found}
 use Rattle.leaves.proofs.pairs.calls.insert.Goals as goal
 
