@@ -6,6 +6,7 @@ use Rattle.wire.specs.declared.board.Wire.TheVariants.{Outside, To}
 use Rattle.wire.specs.declared.list.End.{End}
 use Rattle.wire.specs.declared.list.Cable.{Cable}
 use Rattle.wire.specs.Wires.{Wires, bare, put, is_free, is_cable}
+use Rattle.wire.specs.Layouts.{linked}
 use Rattle.wire.specs.Lists.{plug, plugged, opened, Pluggable, AllPluggable, Openable, AllOpenable}
 use Rattle.script.specs.Headers.{Kept}
 
@@ -32,6 +33,14 @@ put_swap i p j q x y w f z a b =
     true≢false
     (sym (and_from (eqb i j) (eqb p q) (eq-eqb i j (sym (eqb-true a i d.0) ∙ eqb-true a j e.0)) (eq-eqb p q (sym (eqb-true b p d.1) ∙ eqb-true b q e.1)))
     ∙ f)) z
+
+cond_twice : {X : Type 0} (s : Bool) (x y z : X) → cond s x (cond s y z) ≡ cond s x z
+cond_twice true x y z = refl
+cond_twice false x y z = refl
+
+-- what a cable puts on the port of its one end goes over what held it
+pub linked_at : (i p j q : ℕ) (w : Wires) → put j q (To i p) (put i p (To j q) w) ≡ linked i p j q w
+linked_at i p j q w = ap (put j q (To i p)) (λ z a b. sym (cond_twice (eqb a i && eqb b p) (To j q) Outside (w a b)) z)
 
 -- a port that is free after a put is another one, and was free before
 put_free : (j q i p : ℕ) (w : Wires) → is_free (put j q Outside w i p) ≡ true → ((eqb i j && eqb p q) ≡ false) × (is_free (w i p) ≡ true)

@@ -2,11 +2,11 @@
 use Rattle.std.proofs.Common.{◌≡◌, ℕ, ◌<◌, true, not, List, [], ◌∷◌, ◌++◌, sym, ap, ◌∙◌, subst}
 use Rattle.std.proofs.lemmas.List.{append-nil}
 use Rattle.octets.specs.Parse as parse
-use Rattle.wire.specs.declared.board.Wire.TheVariants.{Outside, To}
+use Rattle.wire.specs.declared.board.Wire.TheVariants.{Outside}
 use Rattle.wire.specs.declared.list.End.{End}
 use Rattle.wire.specs.declared.list.Cable.{Cable}
 use Rattle.wire.specs.Wires.{Wires, put, is_free, is_cable}
-use Rattle.wire.specs.Layouts.{Layout, layout}
+use Rattle.wire.specs.Layouts.{Layout, layout, linked}
 use Rattle.wire.specs.Lists.{layout_bytes}
 use Rattle.wire.proofs.Listed.{listed}
 use Rattle.script.specs.Headers.{Kept}
@@ -17,18 +17,18 @@ module _ (x : Layout) (cs : List Cable) (es : List End) (k : Kept x.switches x.p
     abbrev both : Cable
     both = record { one = record { switch = i; port = p }; other = record { switch = j; port = q } }
 
-    pub cable_kept : (held all : Wires) (more : List Cable) → i < x.switches → p < x.ports → j < x.switches → q < x.ports →
-        is_free (x.wire i p) ≡ true → is_free (held j q) ≡ true → held ≡ put i p Outside x.wire → all ≡ put j q (To i p) (put i p (To j q) held) →
-        more ≡ cs ++ both ∷ [] → Kept x.switches x.ports x.hops more es all
-    cable_kept held all more li lp lj lq free free_too eh ea em =
+    pub cable_kept : (all : Wires) (more : List Cable) → i < x.switches → p < x.ports → j < x.switches → q < x.ports →
+        is_free (x.wire i p) ≡ true → is_free (put i p Outside x.wire j q) ≡ true → all ≡ linked i p j q x.wire → more ≡ cs ++ both ∷ [] →
+        Kept x.switches x.ports x.hops more es all
+    cable_kept all more li lp lj lq free free_too ea em =
         subst (λ l. Kept x.switches x.ports x.hops l es all) (sym em)
-        (subst (Kept x.switches x.ports x.hops (cs ++ both ∷ []) es) (sym (ea ∙ ap (λ w. put j q (To i p) (put i p (To j q) w)) eh))
+        (subst (Kept x.switches x.ports x.hops (cs ++ both ∷ []) es) (sym ea)
         (cable_more x.switches x.ports x.hops cs es x.wire k both
         (record {
           one = record { switch = li; port = lp };
           other = record { switch = lj; port = lq };
           free = free;
-          free_too = ap (λ v. is_free (v j q)) (sym eh) ∙ free_too;
+          free_too = free_too;
         })))
 
   pub end_kept : (i p : ℕ) (all : Wires) (more : List End) → i < x.switches → p < x.ports → not (is_cable (x.wire i p)) ≡ true → all ≡ put i p Outside x.wire →

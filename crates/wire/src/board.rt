@@ -38,14 +38,13 @@ impl Wire {
     }
 }
 
-// The ports of a switch, with something else on one of them.
-fn hung(mut ports: [Wire; 32], p: u8, wire: Wire) -> [Wire; 32]
+// Hangs something else on a port of a switch.
+fn hang(ports: &mut [Wire; 32], p: u8, wire: Wire)
     requires { p < 32 }
-    ensures after { result ≡ slice_set ports p wire }
-    ensures there { p < length ports }
+    ensures after { ports.new ≡ slice_set ports.old p wire }
+    ensures there { p < length ports.old }
 {
     ports[p as usize] = wire;
-    ports
 }
 
 impl Board {
@@ -72,6 +71,6 @@ impl Board {
         requires port { p < 32 }
         ensures after { wires_of self.new ≡ spec.put i p wire (wires_of self.old) }
     {
-        self.wires[i as usize] = hung(self.wires[i as usize], p, wire);
+        hang(&mut self.wires[i as usize], p, wire);
     }
 }

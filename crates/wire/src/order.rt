@@ -83,7 +83,7 @@ impl Order {
     }
 
     // Only a round has a round.
-    pub fn of_kind(kind: Kind, version: u16, round: u8) -> Order
+    pub fn of(kind: Kind, version: u16, round: u8) -> Order
         ensures value { result ≡ spec.order_of (spec.number kind) version round }
     {
         match kind {
@@ -92,6 +92,13 @@ impl Order {
             Kind::Round => Order::Round(version, round),
             Kind::Remove => Order::Remove(version),
         }
+    }
+
+    // The same by the number of the kind. Numbers from 4 up give what that of a removal gives.
+    pub fn of_kind(kind: u8, version: u16, round: u8) -> Order
+        ensures value { result ≡ spec.order_of kind version round }
+    {
+        Order::of(Kind::try_from(kind).unwrap_or(Kind::Remove), version, round)
     }
 
     pub fn version(self) -> u16

@@ -91,8 +91,10 @@ pub fn read<'a>(heap: Global, script: &'a [u8]) -> Result<Option<Header<'a>>, Re
 {
     let mut lines = Lines::new(script);
     while let Some((line, bytes)) = lines.next() {
-        if let Some(description) = first(heap, bytes).map_err(|fault| refused(fault, line))? {
-            return describe(heap, description, lines);
+        match first(heap, bytes) {
+            Ok(None) => {}
+            Ok(Some(description)) => return describe(heap, description, lines),
+            Err(fault) => return Err(refused(fault, line)),
         }
     }
     Ok(None)

@@ -24,7 +24,7 @@ fn order(c: &mut Cursor, n: u8, h: u8, kind: Kind) -> Result<(Order, u8), Fault>
     let version = c.word()?;
     let round = round_of(c, h, kind)?;
     let switch = c.below(n)?;
-    Ok((Order::of_kind(kind, version, round), switch))
+    Ok((Order::of(kind, version, round), switch))
 }
 
 // An order or an answer, in a net of n switches and h hops. What is left to read is an install's table.

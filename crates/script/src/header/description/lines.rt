@@ -6,7 +6,8 @@ ghost use Rattle.notation.specs.Words.{left};
 ghost use Rattle.notation.specs.Readers.{told};
 ghost use Rattle.wire.specs.Layouts.{layout};
 ghost use Rattle.wire.specs.Nets.{wires_in};
-ghost use Rattle.wire.specs.Wires.{is_free, is_cable};
+ghost use Rattle.wire.specs.declared.board.Wire.TheVariants.{Outside};
+ghost use Rattle.wire.specs.Wires.{is_free, is_cable, put};
 ghost use Rattle.script.specs.Headers as spec;
 ghost use Rattle.script.specs.Described.{layout_of, Opens, Becomes};
 
@@ -53,6 +54,20 @@ fn free_port(words: &mut Words, net: &Net, switch: u8) -> Result<u8, Fault>
     Ok(port)
 }
 
+// A port for the other end of a cable, whose one end holds a port already.
+fn other_port(words: &mut Words, net: &Net, one: End, switch: u8) -> Result<u8, Fault>
+    ensures value { told result (left words.new)
+        ≡ spec.free_port net.now.ports (put one.switch one.port Outside (wires_in net.now)) switch (left words.old) }
+    ensures bound { IfOk result (λ x. x < net.now.ports) }
+    ensures free { IfOk result (λ x. is_free (put one.switch one.port Outside (wires_in net.now) switch x) ≡ true) }
+{
+    let port = free_port(words, net, switch)?;
+    if one == (End { switch, port }) {
+        return Err(Fault::Port);
+    }
+    Ok(port)
+}
+
 // A port of a switch that is on no cable.
 fn open_port(words: &mut Words, net: &Net, switch: u8) -> Result<u8, Fault>
     ensures value { told result (left words.new) ≡ spec.open_port net.now.ports (wires_in net.now) switch (left words.old) }
@@ -85,19 +100,15 @@ impl Description {
     pub(crate) fn cable(&mut self, words: &mut Words) -> Result<(), Fault>
         ensures value { Becomes result self.new (spec.cable (layout_of self.old) (left words.old)) }
     {
-        let mut net = self.net;
-        let i = below(words, net.switches())?;
-        let p = free_port(words, &net, i)?;
-        net.open(i, p);
-        let j = below(words, net.switches())?;
-        let q = free_port(words, &net, j)?;
+        let i = below(words, self.net.switches())?;
+        let p = free_port(words, &self.net, i)?;
+        let one = End { switch: i, port: p };
+        let j = below(words, self.net.switches())?;
+        let q = other_port(words, &self.net, one, j)?;
         end(words)?;
-        net.link(i, p, j, q);
-        self.cables.push(Cable {
-            one: End { switch: i, port: p },
-            other: End { switch: j, port: q },
-        })?;
-        self.net = net;
+        let other = End { switch: j, port: q };
+        self.cables.push(Cable { one, other })?;
+        self.net.link(i, p, j, q);
         Ok(())
     }
 

@@ -7,6 +7,6 @@ pub returns : goal.returns
 returns c =
     let ws = c.args.self.now.wires in
     record {
-      after = ap (λ r. wires_of (record { wires = set ws c.args.i r })) c.hung.ensures.after
-          ∙ put_board ws c.args.i c.args.p c.args.wire (search rules) c.hung.ensures.there;
+      after = ap (λ r. wires_of (record { wires = set ws c.args.i r })) c.hang.ensures.after
+          ∙ put_board ws c.args.i c.args.p c.args.wire (search rules) c.hang.ensures.there;
     }
