@@ -4,6 +4,7 @@ ghost use Rattle.table.specs.Words.{sound};
 
 mod calls;
 
+pub use crate::sound::is_table;
 pub use calls::layout_stands;
 
 #[derive(Clone, Copy)]
