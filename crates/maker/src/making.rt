@@ -38,8 +38,10 @@ pub fn make(
     let with = known.with(pair);
     let Some(yes) = make(evaluator, pairs, i + 1, &with, out)? else {
         // What is left is looked at for too many copies alone.
-        make(evaluator, pairs, i + 1, known, out)?;
-        return Ok(None);
+        return match make(evaluator, pairs, i + 1, known, out) {
+            Ok(_) => Ok(None),
+            Err(fault) => Err(fault),
+        };
     };
     let Some(no) = make(evaluator, pairs, i + 1, known, &mut out[yes.words..])? else {
         return Ok(None);

@@ -82,28 +82,28 @@ make-requires-in_default t c =
     let new = sym c.if-knows.ensures.value in
     (search rules, same_task _ _ c.in_ok-yes.ensures.text ps _ k _ (task_no a ps c.args.i k lent c.requires.task c.if-i-pairs.false new _ (omega (arith, room_for_both a ps c.args.i k lent c.requires.task c.if-i-pairs.false new))))
 
-pub returns-in_err-make-clause-made : goal.returns-in_err-make-clause-made
-returns-in_err-make-clause-made t c =
+pub returns-in-Err-clause-made : goal.returns-in-Err-clause-made
+returns-in-Err-clause-made t c =
     let a = plan c.args.evaluator.now in
     let ps = c.args.pairs.now in
     let k = c.args.known.now in
     let lent = length c.args.out.now in
     let new = sym c.if-knows.ensures.value in
-    failed _ _ _ _ _ _
-    (turn_crowded_n a ps c.args.i k lent c.requires.task c.if-i-pairs.false new c.with-with.result c.with-with.ensures.known c.make-in_default.new.out c.make-in_default.new.out c.in_err-make.field-0.0
-    (same_made _ _ c.in_ok-yes.ensures.text _ _ c.make-in_default.new.out (Err c.in_err-make.field-0.0) c.in_err-make.ensures.made))
-    c.from_residual-in_err-make.ensures.1
+    let h =
+    turn_crowded_n a ps c.args.i k lent c.requires.task c.if-i-pairs.false new c.with-with.result c.with-with.ensures.known c.make-in_default.new.out c.make-in_default.new.out c.in-Err.fault
+    (same_made _ _ c.in_ok-yes.ensures.text _ _ c.make-in_default.new.out (Err c.in-Err.fault) c.in-Err.ensures.made) in
+    (h.0, cc h.1)
 
-pub returns-in_default-clause-made : goal.returns-in_default-clause-made
-returns-in_default-clause-made t c =
+pub returns-in-Ok-clause-made : goal.returns-in-Ok-clause-made
+returns-in-Ok-clause-made t c =
     let a = plan c.args.evaluator.now in
     let ps = c.args.pairs.now in
     let k = c.args.known.now in
     let lent = length c.args.out.now in
     let new = sym c.if-knows.ensures.value in
     let y = subst (λ m. MadeOf a (wants_of (drop (c.args.i + 1) ps)) (known_of c.with-with.result) c.make-2.new.out (Ok m)) c.in_default.is c.in_ok-yes.ensures.made in
-    turn_over_y a ps c.args.i k lent c.requires.task c.if-i-pairs.false new c.with-with.result c.with-with.ensures.known c.make-2.new.out c.make-in_default.new.out c.make-in_default.new.out c.in_ok-make.field-0 y
-    (same_made _ _ c.in_ok-yes.ensures.text _ _ c.make-in_default.new.out (Ok c.in_ok-make.field-0) c.in_ok-make.ensures.made)
+    turn_over_y a ps c.args.i k lent c.requires.task c.if-i-pairs.false new c.with-with.result c.with-with.ensures.known c.make-2.new.out c.make-in_default.new.out c.make-in_default.new.out c.in-Ok.field-0 y
+    (same_made _ _ c.in_ok-yes.ensures.text _ _ c.make-in_default.new.out (Ok c.in-Ok.field-0) c.in-Ok.ensures.made)
 
 pub offset_bounds-out-yes : goal.offset_bounds-out-yes
 offset_bounds-out-yes t c =
