@@ -1,10 +1,17 @@
 // The answers that the desk hears.
-ghost use Rattle.std.specs.Prelude.{◌≡◌, ◌<◌, Decides, MatchResult};
+ghost use Rattle.std.specs.Prelude.{◌≡◌, ◌<◌, Some, Decides, MatchResult};
 ghost use Rattle.run.specs.Desk.{AllSeen, heard};
 ghost use Rattle.desk.specs.Model.{Awaits, Heard, Refused, desk_of, most};
 
 use crate::{Desk, Order, SWITCHES};
 use octets::Fault;
+
+// The answer is to this very order; to none there is no answer.
+fn is_to(answer: Order, order: Option<Order>) -> bool
+    ensures test { Decides result (order ≡ Some answer) }
+{
+    order == Some(answer)
+}
 
 impl Desk {
     // Switch i has answered.
@@ -28,7 +35,7 @@ impl Desk {
     pub fn awaits(self, answer: Order) -> bool
         ensures test { Decides result (Awaits (desk_of self) answer) }
     {
-        self.order() == Some(answer)
+        is_to(answer, self.order())
     }
 
     // Hears an answer of a switch; when the first switches have all answered, the desk goes on.
