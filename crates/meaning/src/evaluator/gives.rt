@@ -2,7 +2,7 @@
 ghost use Rattle.std.specs.Prelude.{◌≡◌, ◌<◌, [], ◌∷◌, cond, length, IfSome};
 ghost use Rattle.packet.specs.Copies.{listing};
 ghost use Rattle.packet.specs.Listed.{fields_of};
-ghost use Rattle.packet.specs.Policy.{keep, and, then};
+ghost use Rattle.packet.specs.Policy.{keep, puts, and, then};
 ghost use Rattle.text.specs.Texts.{nodes_of};
 ghost use Rattle.text.specs.Trees.{trees, test_at, policy_at};
 ghost use Rattle.meaning.specs.Answers.{Answered, AnsweredEach};
@@ -26,14 +26,22 @@ fn kept_if(passed: bool, p: Packet) -> Copies
     }
 }
 
+// The packet with the field set.
+#[inline(never)]
+fn give_put(f: u8, x: u16, p: Packet) -> Result<Copies, Fault>
+    ensures answer { Answered (puts f x) p.fields result }
+{
+    Ok(Copies::one(p.put(f, x)))
+}
+
 impl Evaluator {
     // What node k gave of the packet, if it was kept.
-    fn recall(&self, k: u16, p: Packet) -> Option<Copies>
+    fn recall(&self, k: u16, p: Packet) -> Option<&Copies>
         requires within { k < length (nodes_of (text_of self.now)) }
-        ensures found { IfSome result (λ s. Answered (policy_at (trees (nodes_of (text_of self.now))) k) p.fields (Ok s)) }
+        ensures found { IfSome result (λ s. Answered (policy_at (trees (nodes_of (text_of self.now))) k) p.fields (Ok s.now)) }
     {
         let entry = self.kept[k as usize].find(self.asked, p)?;
-        Some(entry.copies)
+        Some(&entry.copies)
     }
 
     fn remember(&mut self, k: u16, p: Packet, copies: &Copies)
@@ -47,22 +55,22 @@ impl Evaluator {
     // What node k gives, which keeps a packet that passes test a. A row is made only where there is none and nothing was kept.
     // A function pays for the room of what it calls in line, so the three that want most of it are called.
     #[inline(never)]
-    fn give_keep(&mut self, k: u16, a: u16, p: Packet) -> Copies
+    fn give_keep(&mut self, k: u16, a: u16, p: Packet) -> Result<Copies, Fault>
         requires within { k < length (nodes_of (text_of self.old)) }
         requires test { a < length (nodes_of (text_of self.old)) }
         requires is { let ts = trees (nodes_of (text_of self.old)) in policy_at ts k ≡ keep (test_at ts a) }
         ensures text { text_of self.new ≡ text_of self.old }
-        ensures answer { Answered (policy_at (trees (nodes_of (text_of self.old))) k) p.fields (Ok result) }
+        ensures answer { Answered (policy_at (trees (nodes_of (text_of self.old))) k) p.fields result }
     {
         if let Some(passed) = self.told(a, p) {
-            return kept_if(passed, p);
+            return Ok(kept_if(passed, p));
         }
         if let Some(copies) = self.recall(k, p) {
-            return copies;
+            return Ok(*copies);
         }
         let copies = kept_if(self.passes_anew(a, p), p);
         self.remember(k, p, &copies);
-        copies
+        Ok(copies)
     }
 
     // What node k gives.
@@ -73,13 +81,13 @@ impl Evaluator {
         ensures answer { Answered (policy_at (trees (nodes_of (text_of self.old))) k) p.fields result }
     {
         match node_at(&self.text, k as usize) {
-            Node::Keep(a) => Ok(self.give_keep(k, a, p)),
-            Node::Put(f, x) => Ok(Copies::one(p.put(f, x))),
+            Node::Keep(a) => self.give_keep(k, a, p),
+            Node::Put(f, x) => give_put(f, x, p),
             Node::And(a, b) => self.give_and(k, a, b, p),
             Node::Then(a, b) => self.give_then(k, a, b, p),
             // A test stands for keeping it.
             Node::Always | Node::Is(_, _) | Node::Both(_, _) | Node::Either(_, _) | Node::Not(_) =>
-                Ok(self.give_keep(k, k, p)),
+                self.give_keep(k, k, p),
         }
     }
 
@@ -95,7 +103,7 @@ impl Evaluator {
         ensures answer { Answered (policy_at (trees (nodes_of (text_of self.old))) k) p.fields result }
     {
         if let Some(copies) = self.recall(k, p) {
-            return Ok(copies);
+            return Ok(*copies);
         }
         let mut all = self.give(a, p)?;
         let more = self.give(b, p)?;
@@ -116,7 +124,7 @@ impl Evaluator {
         ensures answer { Answered (policy_at (trees (nodes_of (text_of self.old))) k) p.fields result }
     {
         if let Some(copies) = self.recall(k, p) {
-            return Ok(copies);
+            return Ok(*copies);
         }
         let some = self.give(a, p)?;
         let all = self.give_each(b, some.as_slice())?;

@@ -2,7 +2,7 @@ use Rattle.std.proofs.Common.{Ok, Err, refl, ap, ◌∙◌, ⊎_elim, lit≤, ru
 use Rattle.packet.specs.Packet.{once}
 use Rattle.packet.specs.Policy.{each, some}
 use Rattle.text.specs.Trees.{as_policy, tree_of}
-use Rattle.meaning.proofs.Answering.{answer_of_lem, handed_on, put_gives, and_first, and_second, and_joined, and_full, then_first, then_each, each_few, each_fault, each_more, each_full}
+use Rattle.meaning.proofs.Answering.{answer_of_lem, handed_on, and_first, and_second, and_joined, and_full, then_first, then_each, each_few, each_fault, each_more, each_full}
 use Rattle.meaning.proofs.Telling.{a_test_lem, test_keeps}
 use Rattle.meaning.proofs.evaluator.Evaluator.+give.Goals as goal
 
@@ -85,9 +85,7 @@ give-give_keep-requires-clause-is t c = ap as_policy c.in-Keep.ensures.stands.tr
 
 pub give-returns-in-Put-clause-answer : goal.give-returns-in-Put-clause-answer
 unfolding tree_of
-give-returns-in-Put-clause-answer t c =
-    answer_of_lem _ _ _ (Ok c.one.result) (ap as_policy c.in-Put.ensures.stands.tree)
-    (put_gives c.in-Put.f c.in-Put.x _ _ c.one.result c.put.ensures.value c.one.ensures.value)
+give-returns-in-Put-clause-answer t c = answer_of_lem _ _ _ c.give_put.result (ap as_policy c.in-Put.ensures.stands.tree) c.give_put.ensures.answer
 
 pub give-give_and-requires : goal.give-give_and-requires
 unfolding tree_of
