@@ -25,7 +25,8 @@ impl Versions {
         ensures value { result ≡ find (λ x. x.version == version) (held_in self.held) }
     {
         self.held
-            .into_iter()
+            .iter()
+            .copied()
             .flatten()
             .find(|held| held.version == version)
     }
@@ -48,7 +49,8 @@ impl Versions {
         ensures value { result ≡ used place (held_in self.held) }
     {
         self.held
-            .into_iter()
+            .iter()
+            .copied()
             .flatten()
             .any(|held| held.place == place)
     }

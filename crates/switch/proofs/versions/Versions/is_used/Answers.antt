@@ -1,11 +1,11 @@
 use Rattle.std.proofs.Common.{rules, tests, eqb}
 use Rattle.std.proofs.lemmas.Iterator.Search.{any_from_yields_List}
-use Rattle.std.proofs.lemmas.Iterator.Consumers.{YieldsList-at}
+use Rattle.std.proofs.lemmas.Iterator.{YieldsList-from_slice}
+use Rattle.std.proofs.lemmas.Iterator.Consumers.{YieldsList-at, YieldsList-from_copied}
 use Rattle.std.proofs.lemmas.Iterator.Adapters.{YieldsList-from_flatten, YieldsList-from_once}
 use Rattle.std.specs.Option.{option_to_list}
 use Rattle.switch.specs.declared.versions.Held.{Held}
-use Rattle.switch.proofs.Rows.{YieldsList-from_array}
 use Rattle.switch.proofs.versions.Versions.is_used.Goals as goal
 
 pub returns : goal.returns
-returns c = record { value = any_from_yields_List {v = λ (y : Held). y} (λ (x : Held). eqb x.place c.args.place) _ _ _ c.any.ensures.ran (YieldsList-from_flatten _ _ (λ y. y) option_to_list (λ x j b. YieldsList-from_once x b.0) (YieldsList-at c.flatten.ensures.source (YieldsList-from_array c.args.self.held c.into_iter.ensures.into_iter_gives.0)) c.flatten.ensures.front c.flatten.ensures.back c.flatten.ensures.done) (λ x b q k. search (rules, tests)) }
+returns c = record { value = any_from_yields_List {v = λ (y : Held). y} (λ (x : Held). eqb x.place c.args.place) _ _ _ c.any.ensures.ran (YieldsList-from_flatten _ _ (λ y. y) option_to_list (λ x j b. YieldsList-from_once x b.0) (YieldsList-at c.flatten.ensures.source (YieldsList-from_copied (YieldsList-at c.copied.ensures.source (YieldsList-from_slice c.args.self.held (cc))))) c.flatten.ensures.front c.flatten.ensures.back c.flatten.ensures.done) (λ x b q k. search (rules, tests)) }
