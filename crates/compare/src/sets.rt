@@ -12,7 +12,7 @@ pub fn listed(heap: Global, packets: &[Packet]) -> Result<Vec<Packet>, AllocErro
     ensures made { IfOk result (λ v. Listed (fields_of v.items) (fields_of packets.now)) }
 {
     let mut set = packets.to_vec(heap)?;
-    set.sort_unstable();
+    set.sort_unstable_by(|p, q| p.cmp(q));
     set.dedup();
     Ok(set)
 }
