@@ -53,7 +53,7 @@ impl Evaluator {
     }
 
     // What node k gives, which keeps a packet that passes test a. A row is made only where there is none and nothing was kept.
-    // A function pays for the room of what it calls in line, so the three that want most of it are called.
+    // A function pays for the room of what it calls in line, so the four that want most of it are called.
     #[inline(never)]
     fn give_keep(&mut self, k: u16, a: u16, p: Packet) -> Result<Copies, Fault>
         requires within { k < length (nodes_of (text_of self.old)) }
